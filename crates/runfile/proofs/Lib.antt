@@ -1,0 +1,5 @@
+mod Numbers
+mod Sequences
+mod Records
+mod Calls
+mod Whole

@@ -1,0 +1,9 @@
+use borrow.Author.Needs.{needs}
+use native.Mathlib.Omega.{arith}
+use Rattle.std.proofs.shelf.Parts.{between-to-end}
+use Rattle.runfile.specs.Reading.{number-at}
+use Rattle.runfile.proofs.reader.two_bytes.Needs as need
+
+pub returns-in-len2-up : need.returns-in-len2-up
+unfolding number-at
+returns-in-len2-up c = (search needs, omega arith, between-to-end (c .args .bytes .now) 2 _ (omega arith))

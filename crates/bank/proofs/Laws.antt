@@ -1,5 +1,5 @@
 use Prim.Native.Nat.{ℕ, _<_, _≤_}
-use Rattle.bank.specs.Bank.{Swaps, loaded, swapped}
+use Rattle.bank.specs.Bank.{OnlySwap, Swaps, loaded, swapped}
 use Rattle.bank.specs.declared.NoWord.{NoWord}
 use Rattle.std.proofs.shelf.Lists.{ext-getD, getD-past, getD-set-other, getD-set-same, length-set}
 use Rattle.std.proofs.shelf.Tests.{cases-eq, cases-lt}
@@ -40,3 +40,8 @@ swaps-same ws i old new answer answer′ after after′ p q =
     each : i < length ws → (k : ℕ) → getD after k 0 ≡ getD after′ k 0
     each lt k =
         ⊎-elim (λ e. rw e (at lt)) (λ ne. p .others-kept k ne ∙ sym (q .others-kept k ne)) (cases-eq k i)
+
+-- so nothing but the definitions keeps it
+pub swaps-only : (ws : List ℕ) (i old new : ℕ) (answer : Result ℕ NoWord) (after : List ℕ) → answer ≡ loaded ws i → after ≡ swapped ws i old new → OnlySwap ws i old new answer after
+swaps-only ws i old new answer after p q =
+    record { same = λ other words law. swaps-same ws i old new other answer words after law (swaps-hold ws i old new answer after p q) }

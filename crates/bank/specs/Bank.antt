@@ -30,3 +30,7 @@ pub record Swaps (ws : List ℕ) (i old new : ℕ) (answer : Result ℕ NoWord) 
   pub keeps-seen : i < length ws → (getD ws i 0 ≡ old → ⊥) → getD after i 0 ≡ getD ws i 0
   -- where there is no word i it refuses, and nothing changes
   pub refuses : length ws ≤ i → (answer ≡ Err (record {})) × (after ≡ ws)
+
+-- The answer and the words after are the only ones that such a swap can have.
+pub record OnlySwap (ws : List ℕ) (i old new : ℕ) (answer : Result ℕ NoWord) (after : List ℕ) : Type 0 where
+  pub same : (other : Result ℕ NoWord) (words : List ℕ) → Swaps ws i old new other words → (other ≡ answer) × (words ≡ after)

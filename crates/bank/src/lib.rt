@@ -4,9 +4,7 @@ ghost use mathlib.Core.Path.{_≡_};
 ghost use mathlib.Core.List.{List};
 ghost use Prim.Native.Nat.{ℕ};
 ghost use lib.ListN.{length};
-ghost use Rattle.std.specs.declared.result.Result.{Result};
-ghost use Rattle.bank.specs.declared.NoWord.{NoWord};
-ghost use Rattle.bank.specs.Bank.{Swaps, loaded, swapped};
+ghost use Rattle.bank.specs.Bank.{OnlySwap, Swaps, loaded, swapped};
 
 mod words;
 
@@ -38,7 +36,7 @@ pub trait Bank {
 /// Swaps word `i` of any bank. The clauses say what a swap does, and that nothing else does the same.
 pub fn compare_and_swap<B: Bank>(bank: &mut B, i: u64, old: u64, new: u64) -> Result<u64, NoWord>
     ensures does { λ r. ⌜ Swaps (B·Bank .words (now (bank .entry))) i old new r (B·Bank .words (now (bank .exit))) ⌝ }
-    ensures only { λ r. ⌜ ((answer : Result ℕ NoWord) (after : List ℕ) → Swaps (B·Bank .words (now (bank .entry))) i old new answer after → (answer ≡ r) × (after ≡ B·Bank .words (now (bank .exit)))) ⌝ }
+    ensures only { λ r. ⌜ OnlySwap (B·Bank .words (now (bank .entry))) i old new r (B·Bank .words (now (bank .exit))) ⌝ }
 {
     bank.swap(i, old, new)
 }

@@ -5,7 +5,9 @@ use Rattle.std.proofs.shelf.Lists.{ext-getD, getD-past, getD-set-other, getD-se
 use Rattle.std.proofs.shelf.Tests.{cases-eq, cases-lt}
 use Rattle.std.proofs.shelf.Ways.{tells}
 use Rattle.std.specs.declared.result.Result.{Result}
+use lib.Dec.{eqb}
 use lib.ListN.{getD, length, set}
+use mathlib.Core.Bool.{cond}
 use mathlib.Core.List.{List}
 use mathlib.Core.Logic.{⊎-elim}
 use mathlib.Core.Path.{_≡_, _∙_, sym}
@@ -45,3 +47,7 @@ swaps-same ws i old new answer answer′ after after′ p q =
 pub swaps-only : (ws : List ℕ) (i old new : ℕ) (answer : Result ℕ NoWord) (after : List ℕ) → answer ≡ loaded ws i → after ≡ swapped ws i old new → OnlySwap ws i old new answer after
 swaps-only ws i old new answer after p q =
     record { same = λ other words law. swaps-same ws i old new other answer words after law (swaps-hold ws i old new answer after p q) }
+
+-- the word that a swap saw, afterwards
+pub seen-after : (ws : List ℕ) (i old new : ℕ) → i < length ws → getD (swapped ws i old new) i 0 ≡ cond (eqb (getD ws i 0) old) new (getD ws i 0)
+seen-after ws i old new lt = grind (arith, tells, getD-set-same ws i new 0 lt)

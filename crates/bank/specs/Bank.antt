@@ -1,11 +1,12 @@
 use Prim.Native.Nat.{ℕ, _<_, _≤_}
 use Rattle.bank.specs.declared.NoWord.{NoWord}
+use Rattle.std.specs.Iters.{counting}
 use Rattle.std.specs.declared.result.Result.the-variants.{Err, Ok}
 use Rattle.std.specs.declared.result.Result.{Result}
 use lib.Dec.{eqb, ltb}
 use lib.ListN.{getD, length, set}
 use mathlib.Core.Bool.{cond}
-use mathlib.Core.List.{List}
+use mathlib.Core.List.{List, map}
 use mathlib.Core.Path.{_≡_}
 
 -- What a load or a swap of word i answers: the word seen, or the refusal where there is no word i.
@@ -34,3 +35,7 @@ pub record Swaps (ws : List ℕ) (i old new : ℕ) (answer : Result ℕ NoWord) 
 -- The answer and the words after are the only ones that such a swap can have.
 pub record OnlySwap (ws : List ℕ) (i old new : ℕ) (answer : Result ℕ NoWord) (after : List ℕ) : Type 0 where
   pub same : (other : Result ℕ NoWord) (words : List ℕ) → Swaps ws i old new other words → (other ≡ answer) × (words ≡ after)
+
+-- The n words of which word i is f i.
+abbrev pub listed : ℕ → (ℕ → ℕ) → List ℕ
+listed n f = map f (counting 0 n)

@@ -6,8 +6,11 @@ ghost use Prim.Native.Nat.{ℕ};
 ghost use lib.ListN.{length};
 ghost use Rattle.bank.specs.Bank.{OnlySwap, Swaps, loaded, swapped};
 
+mod window;
 mod words;
 
+pub use window::Window;
+pub use window::WindowIsBank;
 pub use words::WordBank;
 pub use words::WordsAreBank;
 

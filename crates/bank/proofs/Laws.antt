@@ -5,15 +5,13 @@ use Rattle.std.proofs.shelf.Lists.{ext-getD, getD-past, getD-set-other, getD-se
 use Rattle.std.proofs.shelf.Tests.{cases-eq, cases-lt}
 use Rattle.std.proofs.shelf.Ways.{tells}
 use Rattle.std.specs.declared.result.Result.{Result}
-use lib.Dec.{eqb}
 use lib.ListN.{getD, length, set}
-use mathlib.Core.Bool.{cond}
 use mathlib.Core.List.{List}
 use mathlib.Core.Logic.{⊎-elim}
-use mathlib.Core.Path.{_≡_, _∙_, sym}
+use mathlib.Core.Path.{_≡_, _∙_, refl, sym}
 use native.Mathlib.Omega.{arith}
 
--- the definitions keep the law of the swap
+-- what answers and leaves as defined keeps the law of the swap
 pub swaps-hold : (ws : List ℕ) (i old new : ℕ) (answer : Result ℕ NoWord) (after : List ℕ) → answer ≡ loaded ws i → after ≡ swapped ws i old new → Swaps ws i old new answer after
 swaps-hold ws i old new answer after p q =
     record
@@ -24,6 +22,10 @@ swaps-hold ws i old new answer after p q =
     ; keeps-seen = λ lt other. grind (arith, tells)
     ; refuses = λ past. (grind (arith, tells), grind (arith, tells))
     }
+
+-- the definitions themselves do
+pub swaps-of : (ws : List ℕ) (i old new : ℕ) → Swaps ws i old new (loaded ws i) (swapped ws i old new)
+swaps-of ws i old new = swaps-hold ws i old new (loaded ws i) (swapped ws i old new) refl refl
 
 -- two swaps that keep it answer and leave the same
 pub swaps-same : (ws : List ℕ) (i old new : ℕ) (answer answer′ : Result ℕ NoWord) (after after′ : List ℕ) → Swaps ws i old new answer after → Swaps ws i old new answer′ after′ → (answer ≡ answer′) × (after ≡ after′)
@@ -47,7 +49,3 @@ swaps-same ws i old new answer answer′ after after′ p q =
 pub swaps-only : (ws : List ℕ) (i old new : ℕ) (answer : Result ℕ NoWord) (after : List ℕ) → answer ≡ loaded ws i → after ≡ swapped ws i old new → OnlySwap ws i old new answer after
 swaps-only ws i old new answer after p q =
     record { same = λ other words law. swaps-same ws i old new other answer words after law (swaps-hold ws i old new answer after p q) }
-
--- the word that a swap saw, afterwards
-pub seen-after : (ws : List ℕ) (i old new : ℕ) → i < length ws → getD (swapped ws i old new) i 0 ≡ cond (eqb (getD ws i 0) old) new (getD ws i 0)
-seen-after ws i old new lt = grind (arith, tells, getD-set-same ws i new 0 lt)

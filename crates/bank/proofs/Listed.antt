@@ -1,5 +1,5 @@
 use Prim.Native.Nat.{ℕ, _<_, _≤_}
-use Rattle.bank.proofs.Laws.{swaps-hold, swaps-same}
+use Rattle.bank.proofs.Laws.{swaps-of, swaps-same}
 use Rattle.bank.specs.Bank.{listed, loaded, swapped}
 use Rattle.std.proofs.shelf.Counted.{getD-map-counting, length-map-counting}
 use Rattle.std.proofs.shelf.Lists.{getD-past}
@@ -10,7 +10,7 @@ use lib.Dec.{eqb}
 use lib.ListN.{getD, length}
 use mathlib.Core.Bool.{cond}
 use mathlib.Core.Logic.{⊎-elim}
-use mathlib.Core.Path.{_≡_, _∙_, refl, sym}
+use mathlib.Core.Path.{_≡_, _∙_, sym}
 use native.Mathlib.Omega.{arith}
 
 pub length-listed : (n : ℕ) (f : ℕ → ℕ) → length (listed n f) ≡ n
@@ -35,7 +35,7 @@ swapped-listed n m f g i old new e lt others at =
     ; keeps-seen = λ _ other. grind (arith, tells, getD-listed n f i lt, getD-listed m g i lt′)
     ; refuses = λ past. let l = length-listed n f in absurd (omega arith)
     })
-    (swaps-hold (listed n f) i old new (loaded (listed n f) i) (swapped (listed n f) i old new) refl refl) .1
+    (swaps-of (listed n f) i old new) .1
   where
     lt′ : i < m
     lt′ = omega arith

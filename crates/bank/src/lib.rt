@@ -6,9 +6,12 @@ ghost use Prim.Native.Nat.{ℕ};
 ghost use lib.ListN.{length};
 ghost use Rattle.bank.specs.Bank.{OnlySwap, Swaps, loaded, swapped};
 
+mod pair;
 mod window;
 mod words;
 
+pub use pair::Pair;
+pub use pair::PairIsBank;
 pub use window::Window;
 pub use window::WindowIsBank;
 pub use words::WordBank;

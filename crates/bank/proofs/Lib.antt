@@ -1,3 +1,4 @@
+pub mod ByteLaws
 pub mod Laws
 pub mod Listed
 pub mod PairLaws

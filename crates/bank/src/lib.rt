@@ -6,10 +6,13 @@ ghost use Prim.Native.Nat.{ℕ};
 ghost use lib.ListN.{length};
 ghost use Rattle.bank.specs.Bank.{OnlySwap, Swaps, loaded, swapped};
 
+mod bytes;
 mod pair;
 mod window;
 mod words;
 
+pub use bytes::ByteBank;
+pub use bytes::BytesAreBank;
 pub use pair::Pair;
 pub use pair::PairIsBank;
 pub use window::Window;

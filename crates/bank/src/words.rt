@@ -15,8 +15,8 @@ pub struct WordBank<'a> {
 impl<'a> WordBank<'a> {
     /// The bank over `words`.
     pub fn over(words: &'a mut [u64]) -> WordBank<'a>
-        ensures held { λ r. ⌜ now (r .words) ≡ now (words .entry) ⌝ }
-        ensures same { λ r. ⌜ name (r .words) ≡ name (words .entry) ⌝ }
+        ensures holds { λ r. ⌜ now (r .words) ≡ now (words .entry) ⌝ }
+        ensures lender { λ r. ⌜ name (r .words) ≡ name (words .entry) ⌝ }
     {
         WordBank { words }
     }
@@ -39,7 +39,7 @@ pub impl Bank for WordBank<'_> as WordsAreBank {
     fn swap(&mut self, i: u64, old: u64, new: u64) -> Result<u64, NoWord>
         ensures answer { λ r. ⌜ r ≡ loaded (held (now (self .entry) .words)) i ⌝ }
         ensures after { λ _. ⌜ held (now (self .exit) .words) ≡ swapped (held (now (self .entry) .words)) i old new ⌝ }
-        ensures same { λ _. ⌜ name (now (self .exit) .words) ≡ name (now (self .entry) .words) ⌝ }
+        ensures lender { λ _. ⌜ name (now (self .exit) .words) ≡ name (now (self .entry) .words) ⌝ }
     {
         if i >= self.size() {
             return Err(NoWord);

@@ -1,0 +1,73 @@
+use Prim.Native.Nat.{ℕ, _*_, _+_, _/_, _<_, _≤_, _^_}
+use Rattle.bank.proofs.Listed.{length-listed, loaded-listed, swapped-listed}
+use Rattle.bank.specs.Bank.{loaded, swapped}
+use Rattle.bank.specs.ByteWords.{byte-words, leftover, with-word, word-bytes, word-from}
+use Rattle.std.proofs.shelf.Lists.{ext-getD, getD-drop, length-drop, places}
+use Rattle.std.proofs.shelf.Tests.{cases-lt, cond-false, cond-true, eq-eqb, ne-eqb}
+use Rattle.std.specs.declared.result.Result.the-variants.{Ok}
+use borrow.Author.Needs.{needs}
+use lib.Dec.{eqb, lit<}
+use lib.ListN.{drop, getD, length}
+use mathlib.Core.List.{List}
+use mathlib.Core.Logic.{⊎-elim}
+use mathlib.Core.Path.{_≡_, _∙_, ap, refl, sym}
+use native.Mathlib.Nat.{add-zero, zero-add}
+use native.Mathlib.Omega.{arith}
+
+pub length-byte-words : (bs : List ℕ) → length (byte-words bs) ≡ length bs / 8
+length-byte-words bs = length-listed (length bs / 8) (λ i. word-from bs (8 * i))
+
+pub load-bytes : (bs : List ℕ) (i : ℕ) → i < length bs / 8 → Ok (word-from bs (8 * i)) ≡ loaded (byte-words bs) i
+load-bytes bs i lt = let r = loaded-listed (length bs / 8) (λ i. word-from bs (8 * i)) i lt in cc
+
+-- a word is the number of its bytes
+word-of-bytes : (w : ℕ) → w < 2 ^ 64 → word-from (word-bytes w) 0 ≡ w
+word-of-bytes w fits = omega arith
+
+length-with : (bs : List ℕ) (p w : ℕ) → p + 8 ≤ length bs → length (with-word bs p w) ≡ length bs
+length-with bs p w h = search (needs, places)
+
+byte-before : (bs : List ℕ) (p w k : ℕ) → p + 8 ≤ length bs → k < p → getD (with-word bs p w) k 0 ≡ getD bs k 0
+byte-before bs p w k h lt = grind (arith, places)
+
+byte-past : (bs : List ℕ) (p w k : ℕ) → p + 8 ≤ length bs → p + 8 ≤ k → getD (with-word bs p w) k 0 ≡ getD bs k 0
+byte-past bs p w k h le = grind (arith, places)
+
+byte-in : (bs : List ℕ) (p w j : ℕ) → p + 8 ≤ length bs → j < 8 → getD (with-word bs p w) (p + j) 0 ≡ getD (word-bytes w) j 0
+byte-in bs p w k h lt = grind (arith, places)
+
+-- equal bytes are one word
+same-word : (xs : List ℕ) (p : ℕ) (bs : List ℕ) (q : ℕ) → ((j : ℕ) → j < 8 → getD xs (p + j) 0 ≡ getD bs (q + j) 0) → word-from xs p ≡ word-from bs q
+same-word xs p bs q e =
+    let z : getD xs p 0 ≡ getD bs q 0 = simp add-zero at (e 0 (lit< tt)) in
+    cc (z, e 1 (lit< tt), e 2 (lit< tt), e 3 (lit< tt), e 4 (lit< tt), e 5 (lit< tt), e 6 (lit< tt), e 7 (lit< tt))
+
+-- a word that is written is read back, and every other is as it was
+word-same : (bs : List ℕ) (p w : ℕ) → p + 8 ≤ length bs → w < 2 ^ 64 → word-from (with-word bs p w) p ≡ w
+word-same bs p w h fits = same-word (with-word bs p w) p (word-bytes w) 0 (λ j lt. rw zero-add (byte-in bs p w j h lt)) ∙ word-of-bytes w fits
+
+word-other : (bs : List ℕ) (i w k : ℕ) → 8 * i + 8 ≤ length bs → (k ≡ i → ⊥) → word-from (with-word bs (8 * i) w) (8 * k) ≡ word-from bs (8 * k)
+word-other bs i w k h ne =
+    same-word (with-word bs (8 * i) w) (8 * k) bs (8 * k)
+    (λ j lt. ⊎-elim (λ below. byte-before bs (8 * i) w (8 * k + j) h (omega arith)) (λ past. byte-past bs (8 * i) w (8 * k + j) h (omega arith)) (cases-lt k i))
+
+pub swap-bytes : (bs : List ℕ) (i old new : ℕ) → i < length bs / 8 → word-from bs (8 * i) ≡ old → new < 2 ^ 64 → byte-words (with-word bs (8 * i) new) ≡ swapped (byte-words bs) i old new
+swap-bytes bs i old new lt seen fits =
+    let h : 8 * i + 8 ≤ length bs = omega arith in
+    swapped-listed (length bs / 8) (length (with-word bs (8 * i) new) / 8) (λ k. word-from bs (8 * k)) (λ k. word-from (with-word bs (8 * i) new) (8 * k)) i old new
+    (ap (λ n. n / 8) (length-with bs (8 * i) new h))
+    lt
+    (λ k ne. word-other bs i new k h ne)
+    (word-same bs (8 * i) new h fits ∙ sym (cond-true (eqb (word-from bs (8 * i)) old) new (word-from bs (8 * i)) (eq-eqb (word-from bs (8 * i)) old seen)))
+
+pub keep-bytes : (bs : List ℕ) (i old new : ℕ) → i < length bs / 8 → (word-from bs (8 * i) ≡ old → ⊥) → byte-words bs ≡ swapped (byte-words bs) i old new
+keep-bytes bs i old new lt other =
+    swapped-listed (length bs / 8) (length bs / 8) (λ k. word-from bs (8 * k)) (λ k. word-from bs (8 * k)) i old new refl lt (λ k ne. refl)
+    (sym (cond-false (eqb (word-from bs (8 * i)) old) new (word-from bs (8 * i)) (ne-eqb (word-from bs (8 * i)) old other)))
+
+pub leftover-kept : (bs : List ℕ) (i w : ℕ) → i < length bs / 8 → leftover (with-word bs (8 * i) w) ≡ leftover bs
+leftover-kept bs i w lt =
+    let h : 8 * i + 8 ≤ length bs = omega arith in
+    let e = length-with bs (8 * i) w h in
+    ap (λ n. drop (8 * (n / 8)) (with-word bs (8 * i) w)) e
+    ∙ ext-getD 0 (drop (8 * (length bs / 8)) (with-word bs (8 * i) w)) (drop (8 * (length bs / 8)) bs) (simp length-drop (omega arith)) (λ k _. simp getD-drop (byte-past bs (8 * i) w (8 * (length bs / 8) + k) h (omega arith)))

@@ -17,8 +17,8 @@ use native.Mathlib.Omega.{arith}
 pub length-byte-words : (bs : List ℕ) → length (byte-words bs) ≡ length bs / 8
 length-byte-words bs = length-listed (length bs / 8) (λ i. word-from bs (8 * i))
 
-pub load-bytes : (bs : List ℕ) (i : ℕ) → i < length bs / 8 → Ok (word-from bs (8 * i)) ≡ loaded (byte-words bs) i
-load-bytes bs i lt = let r = loaded-listed (length bs / 8) (λ i. word-from bs (8 * i)) i lt in cc
+pub load-bytes : (bs : List ℕ) (i n w : ℕ) → i < n → n ≡ length bs / 8 → w ≡ word-from bs (8 * i) → Ok w ≡ loaded (byte-words bs) i
+load-bytes bs i n w lt l e = let r = loaded-listed (length bs / 8) (λ i. word-from bs (8 * i)) i (omega arith) in cc
 
 -- a word is the number of its bytes
 word-of-bytes : (w : ℕ) → w < 2 ^ 64 → word-from (word-bytes w) 0 ≡ w
@@ -51,23 +51,25 @@ word-other bs i w k h ne =
     same-word (with-word bs (8 * i) w) (8 * k) bs (8 * k)
     (λ j lt. ⊎-elim (λ below. byte-before bs (8 * i) w (8 * k + j) h (omega arith)) (λ past. byte-past bs (8 * i) w (8 * k + j) h (omega arith)) (cases-lt k i))
 
-pub swap-bytes : (bs : List ℕ) (i old new : ℕ) → i < length bs / 8 → word-from bs (8 * i) ≡ old → new < 2 ^ 64 → byte-words (with-word bs (8 * i) new) ≡ swapped (byte-words bs) i old new
-swap-bytes bs i old new lt seen fits =
+pub swap-bytes : (bs zs : List ℕ) (i n w old new : ℕ) → zs ≡ with-word bs (8 * i) new → i < n → n ≡ length bs / 8 → w ≡ word-from bs (8 * i) → w ≡ old → new < 2 ^ 64 → byte-words zs ≡ swapped (byte-words bs) i old new
+swap-bytes bs zs i n w old new e lt l seen same fits =
     let h : 8 * i + 8 ≤ length bs = omega arith in
-    swapped-listed (length bs / 8) (length (with-word bs (8 * i) new) / 8) (λ k. word-from bs (8 * k)) (λ k. word-from (with-word bs (8 * i) new) (8 * k)) i old new
+    ap byte-words e
+    ∙ swapped-listed (length bs / 8) (length (with-word bs (8 * i) new) / 8) (λ k. word-from bs (8 * k)) (λ k. word-from (with-word bs (8 * i) new) (8 * k)) i old new
     (ap (λ n. n / 8) (length-with bs (8 * i) new h))
-    lt
+    (omega arith)
     (λ k ne. word-other bs i new k h ne)
-    (word-same bs (8 * i) new h fits ∙ sym (cond-true (eqb (word-from bs (8 * i)) old) new (word-from bs (8 * i)) (eq-eqb (word-from bs (8 * i)) old seen)))
+    (word-same bs (8 * i) new h fits ∙ sym (cond-true (eqb (word-from bs (8 * i)) old) new (word-from bs (8 * i)) (eq-eqb (word-from bs (8 * i)) old (sym seen ∙ same))))
 
-pub keep-bytes : (bs : List ℕ) (i old new : ℕ) → i < length bs / 8 → (word-from bs (8 * i) ≡ old → ⊥) → byte-words bs ≡ swapped (byte-words bs) i old new
-keep-bytes bs i old new lt other =
-    swapped-listed (length bs / 8) (length bs / 8) (λ k. word-from bs (8 * k)) (λ k. word-from bs (8 * k)) i old new refl lt (λ k ne. refl)
-    (sym (cond-false (eqb (word-from bs (8 * i)) old) new (word-from bs (8 * i)) (ne-eqb (word-from bs (8 * i)) old other)))
+pub keep-bytes : (bs : List ℕ) (i n w old new : ℕ) → i < n → n ≡ length bs / 8 → w ≡ word-from bs (8 * i) → (w ≡ old → ⊥) → byte-words bs ≡ swapped (byte-words bs) i old new
+keep-bytes bs i n w old new lt l seen other =
+    swapped-listed (length bs / 8) (length bs / 8) (λ k. word-from bs (8 * k)) (λ k. word-from bs (8 * k)) i old new refl (omega arith) (λ k ne. refl)
+    (sym (cond-false (eqb (word-from bs (8 * i)) old) new (word-from bs (8 * i)) (ne-eqb (word-from bs (8 * i)) old (λ e. other (seen ∙ e)))))
 
-pub leftover-kept : (bs : List ℕ) (i w : ℕ) → i < length bs / 8 → leftover (with-word bs (8 * i) w) ≡ leftover bs
-leftover-kept bs i w lt =
+pub leftover-kept : (bs zs : List ℕ) (i n w : ℕ) → zs ≡ with-word bs (8 * i) w → i < n → n ≡ length bs / 8 → leftover zs ≡ leftover bs
+leftover-kept bs zs i n w e lt m =
     let h : 8 * i + 8 ≤ length bs = omega arith in
-    let e = length-with bs (8 * i) w h in
-    ap (λ n. drop (8 * (n / 8)) (with-word bs (8 * i) w)) e
+    let l = length-with bs (8 * i) w h in
+    ap leftover e
+    ∙ ap (λ n. drop (8 * (n / 8)) (with-word bs (8 * i) w)) l
     ∙ ext-getD 0 (drop (8 * (length bs / 8)) (with-word bs (8 * i) w)) (drop (8 * (length bs / 8)) bs) (simp length-drop (omega arith)) (λ k _. simp getD-drop (byte-past bs (8 * i) w (8 * (length bs / 8) + k) h (omega arith)))

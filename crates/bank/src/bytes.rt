@@ -24,23 +24,23 @@ impl<'a> ByteBank<'a> {
     {
         ByteBank { bytes }
     }
-}
 
-/// The number of the eight bytes from `at` on.
-fn word_from(bytes: &[u8], at: usize) -> u64
-    requires { ⌜ at + 8 ≤ length (now bytes) ⌝ }
-    ensures { λ r. ⌜ r ≡ word-from (now (bytes .entry)) at ⌝ }
-{
-    u64::from_be_bytes([
-        bytes[at],
-        bytes[at + 1],
-        bytes[at + 2],
-        bytes[at + 3],
-        bytes[at + 4],
-        bytes[at + 5],
-        bytes[at + 6],
-        bytes[at + 7],
-    ])
+    /// The number of the eight bytes from `at` on.
+    fn word_from(&self, at: usize) -> u64
+        requires { ⌜ at + 8 ≤ length (held (now self .bytes)) ⌝ }
+        ensures { λ r. ⌜ r ≡ word-from (held (now (self .entry) .bytes)) at ⌝ }
+    {
+        u64::from_be_bytes([
+            self.bytes[at],
+            self.bytes[at + 1],
+            self.bytes[at + 2],
+            self.bytes[at + 3],
+            self.bytes[at + 4],
+            self.bytes[at + 5],
+            self.bytes[at + 6],
+            self.bytes[at + 7],
+        ])
+    }
 }
 
 /// Writes `word` into the eight bytes from `at` on.
@@ -65,7 +65,7 @@ pub impl Bank for ByteBank<'_> as BytesAreBank {
         if i >= self.size() {
             return Err(NoWord);
         }
-        Ok(word_from(self.bytes, 8 * i as usize))
+        Ok(self.word_from(8 * i as usize))
     }
 
     fn swap(&mut self, i: u64, old: u64, new: u64) -> Result<u64, NoWord>
@@ -79,7 +79,7 @@ pub impl Bank for ByteBank<'_> as BytesAreBank {
             return Err(NoWord);
         }
         let at = 8 * i as usize;
-        let seen = word_from(self.bytes, at);
+        let seen = self.word_from(at);
         if seen == old {
             store(self.bytes, at, new);
         }

@@ -1,9 +1,9 @@
 use Prim.Native.Nat.{ℕ, _*_, _+_, _/_, _<_, _≤_, _^_}
 use Rattle.bank.proofs.Listed.{length-listed, loaded-listed, swapped-listed}
 use Rattle.bank.specs.Bank.{loaded, swapped}
-use Rattle.bank.specs.ByteWords.{byte-words, leftover, with-word, word-bytes, word-from}
+use Rattle.bank.specs.ByteWords.{byte-words, bytes-after, leftover, with-word, word-bytes, word-from}
 use Rattle.std.proofs.shelf.Lists.{ext-getD, getD-drop, length-drop, places}
-use Rattle.std.proofs.shelf.Tests.{cases-lt, cond-false, cond-true, eq-eqb, ne-eqb}
+use Rattle.std.proofs.shelf.Tests.{cases-lt, cond-false, cond-true, eq-eqb, lt-ltb, ne-eqb}
 use Rattle.std.specs.declared.result.Result.the-variants.{Ok}
 use borrow.Author.Needs.{needs}
 use lib.Dec.{eqb, lit<}
@@ -73,3 +73,11 @@ leftover-kept bs zs i n w e lt m =
     ap leftover e
     ∙ ap (λ n. drop (8 * (n / 8)) (with-word bs (8 * i) w)) l
     ∙ ext-getD 0 (drop (8 * (length bs / 8)) (with-word bs (8 * i) w)) (drop (8 * (length bs / 8)) bs) (simp length-drop (omega arith)) (λ k _. simp getD-drop (byte-past bs (8 * i) w (8 * (length bs / 8) + k) h (omega arith)))
+
+pub bytes-stored : (bs zs : List ℕ) (i n w old new : ℕ) → zs ≡ with-word bs (8 * i) new → i < n → n ≡ length bs / 8 → w ≡ word-from bs (8 * i) → w ≡ old → zs ≡ bytes-after bs i old new
+bytes-stored bs zs i n w old new e lt l seen same =
+    rw (lt-ltb i (length bs / 8) (omega arith), eq-eqb (word-from bs (8 * i)) old (sym seen ∙ same)) e
+
+pub bytes-kept : (bs : List ℕ) (i n w old new : ℕ) → i < n → n ≡ length bs / 8 → w ≡ word-from bs (8 * i) → (w ≡ old → ⊥) → bs ≡ bytes-after bs i old new
+bytes-kept bs i n w old new lt l seen other =
+    rw (lt-ltb i (length bs / 8) (omega arith), ne-eqb (word-from bs (8 * i)) old (λ e. other (seen ∙ e)))

@@ -1,7 +1,9 @@
 use Prim.Native.Nat.{ℕ, _%_, _*_, _+_, _/_, _^_}
 use Rattle.bank.specs.Bank.{listed}
+use lib.Dec.{eqb, ltb}
 use lib.ListN.{drop, getD, length}
 use lib.Seq.{paste}
+use mathlib.Core.Bool.{cond}
 use mathlib.Core.List.{List, [], _∷_}
 
 -- The number of the eight bytes from place p on, the most significant first.
@@ -27,3 +29,7 @@ word-bytes w =
 -- The bytes with those of a word from place p on.
 abbrev pub with-word : List ℕ → ℕ → ℕ → List ℕ
 with-word bs p w = paste bs p (word-bytes w) 8
+
+-- The bytes after a swap of word i.
+abbrev pub bytes-after : List ℕ → ℕ → ℕ → ℕ → List ℕ
+bytes-after bs i old new = cond (ltb i (length bs / 8)) (cond (eqb (word-from bs (8 * i)) old) (with-word bs (8 * i) new) bs) bs

@@ -4,7 +4,7 @@ ghost use denote.Ref.{now as held};
 ghost use lib.ListN.{length};
 ghost use mathlib.Core.Path.{_≡_};
 ghost use Rattle.bank.specs.Bank.{loaded, swapped};
-ghost use Rattle.bank.specs.ByteWords.{byte-words, leftover, with-word, word-from};
+ghost use Rattle.bank.specs.ByteWords.{byte-words, bytes-after, leftover, with-word, word-from};
 
 use crate::Bank;
 use crate::NoWord;
@@ -71,6 +71,7 @@ pub impl Bank for ByteBank<'_> as BytesAreBank {
     fn swap(&mut self, i: u64, old: u64, new: u64) -> Result<u64, NoWord>
         ensures answer { λ r. ⌜ r ≡ loaded (byte-words (held (now (self .entry) .bytes))) i ⌝ }
         ensures after { λ _. ⌜ byte-words (held (now (self .exit) .bytes)) ≡ swapped (byte-words (held (now (self .entry) .bytes))) i old new ⌝ }
+        ensures bytes { λ _. ⌜ held (now (self .exit) .bytes) ≡ bytes-after (held (now (self .entry) .bytes)) i old new ⌝ }
         ensures kept { λ _. ⌜ leftover (held (now (self .exit) .bytes)) ≡ leftover (held (now (self .entry) .bytes)) ⌝ }
         ensures length { λ _. ⌜ length (held (now (self .exit) .bytes)) ≡ length (held (now (self .entry) .bytes)) ⌝ }
         ensures lender { λ _. ⌜ name (now (self .exit) .bytes) ≡ name (now (self .entry) .bytes) ⌝ }

@@ -8,6 +8,8 @@ ghost use Rattle.bank.specs.Bank.{OnlySwap, Swaps, loaded, swapped};
 
 mod bytes;
 mod pair;
+#[cfg(test)]
+mod tests;
 mod window;
 mod words;
 

@@ -14,13 +14,13 @@ use native.Mathlib.Omega.{arith}
 -- what answers and leaves as defined keeps the law of the swap
 pub swaps-hold : (ws : List ℕ) (i old new : ℕ) (answer : Result ℕ NoWord) (after : List ℕ) → answer ≡ loaded ws i → after ≡ swapped ws i old new → Swaps ws i old new answer after
 swaps-hold ws i old new answer after p q =
-    record
-    { same-length = grind (arith, tells, length-set ws i new)
-    ; others-kept = λ k other. grind (arith, tells, getD-set-other ws i k new 0 other)
-    ; answers-seen = λ lt. grind (arith, tells)
-    ; stores-new = λ lt same. grind (arith, tells, getD-set-same ws i new 0 lt)
-    ; keeps-seen = λ lt other. grind (arith, tells)
-    ; refuses = λ past. (grind (arith, tells), grind (arith, tells))
+    record {
+      same-length = grind (arith, tells, length-set ws i new);
+      others-kept = λ k other. grind (arith, tells, getD-set-other ws i k new 0 other);
+      answers-seen = λ lt. grind (arith, tells);
+      stores-new = λ lt same. grind (arith, tells, getD-set-same ws i new 0 lt);
+      keeps-seen = λ lt other. grind (arith, tells);
+      refuses = λ past. (grind (arith, tells), grind (arith, tells));
     }
 
 -- the definitions themselves do
@@ -41,6 +41,7 @@ swaps-same ws i old new answer answer′ after after′ p q =
         (λ e. p .stores-new lt e ∙ sym (q .stores-new lt e))
         (λ ne. p .keeps-seen lt ne ∙ sym (q .keeps-seen lt ne))
         (cases-eq (getD ws i 0) old)
+
     each : i < length ws → (k : ℕ) → getD after k 0 ≡ getD after′ k 0
     each lt k =
         ⊎-elim (λ e. rw e (at lt)) (λ ne. p .others-kept k ne ∙ sym (q .others-kept k ne)) (cases-eq k i)

@@ -27,20 +27,22 @@ loaded-listed n f i lt = let e = length-listed n f in let s = getD-listed n f i 
 pub swapped-listed : (n m : ℕ) (f g : ℕ → ℕ) (i old new : ℕ) → m ≡ n → i < n → ((k : ℕ) → (k ≡ i → ⊥) → g k ≡ f k) → g i ≡ cond (eqb (f i) old) new (f i) → listed m g ≡ swapped (listed n f) i old new
 swapped-listed n m f g i old new e lt others at =
     swaps-same (listed n f) i old new (loaded (listed n f) i) (loaded (listed n f) i) (listed m g) (swapped (listed n f) i old new)
-    (record
-    { same-length = length-listed m g ∙ e ∙ sym (length-listed n f)
-    ; others-kept = kept
-    ; answers-seen = λ h. grind (arith, tells)
-    ; stores-new = λ _ same. grind (arith, tells, getD-listed n f i lt, getD-listed m g i lt′)
-    ; keeps-seen = λ _ other. grind (arith, tells, getD-listed n f i lt, getD-listed m g i lt′)
-    ; refuses = λ past. let l = length-listed n f in absurd (omega arith)
+    (record {
+      same-length = length-listed m g ∙ e ∙ sym (length-listed n f);
+      others-kept = kept;
+      answers-seen = λ h. grind (arith, tells);
+      stores-new = λ _ same. grind (arith, tells, getD-listed n f i lt, getD-listed m g i lt′);
+      keeps-seen = λ _ other. grind (arith, tells, getD-listed n f i lt, getD-listed m g i lt′);
+      refuses = λ past. let l = length-listed n f in absurd (omega arith);
     })
     (swaps-of (listed n f) i old new) .1
   where
     lt′ : i < m
     lt′ = omega arith
+
     beyond : (j : ℕ) (h : ℕ → ℕ) (k : ℕ) → j ≤ k → getD (listed j h) k 0 ≡ 0
     beyond j h k past = let l = length-listed j h in getD-past (listed j h) k 0 (omega arith)
+
     kept : (k : ℕ) → (k ≡ i → ⊥) → getD (listed m g) k 0 ≡ getD (listed n f) k 0
     kept k ne =
         ⊎-elim

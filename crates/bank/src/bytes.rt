@@ -5,7 +5,6 @@ ghost use lib.ListN.{length};
 ghost use mathlib.Core.Path.{_≡_};
 ghost use Rattle.bank.specs.Bank.{loaded, swapped};
 ghost use Rattle.bank.specs.ByteWords.{byte-words, bytes-after, leftover, with-word, word-from};
-
 use crate::Bank;
 use crate::NoWord;
 

@@ -1,7 +1,6 @@
 ghost use mathlib.Core.Path.{_≡_};
 ghost use Rattle.bank.specs.Bank.{loaded, swapped};
 ghost use Rattle.bank.specs.Pairs.{first-after, paired, second-after};
-
 use crate::Bank;
 use crate::NoWord;
 
@@ -43,7 +42,11 @@ pub impl<A: Bank, B: Bank> Bank for Pair<A, B> as PairIsBank {
         if i >= self.size() {
             return Err(NoWord);
         }
-        if i % 2 == 0 { self.first.load(i / 2) } else { self.second.load(i / 2) }
+        if i % 2 == 0 {
+            self.first.load(i / 2)
+        } else {
+            self.second.load(i / 2)
+        }
     }
 
     fn swap(&mut self, i: u64, old: u64, new: u64) -> Result<u64, NoWord>
@@ -55,6 +58,10 @@ pub impl<A: Bank, B: Bank> Bank for Pair<A, B> as PairIsBank {
         if i >= self.size() {
             return Err(NoWord);
         }
-        if i % 2 == 0 { self.first.swap(i / 2, old, new) } else { self.second.swap(i / 2, old, new) }
+        if i % 2 == 0 {
+            self.first.swap(i / 2, old, new)
+        } else {
+            self.second.swap(i / 2, old, new)
+        }
     }
 }

@@ -3,7 +3,6 @@ ghost use lib.ListN.{length};
 ghost use mathlib.Core.Path.{_≡_};
 ghost use Rattle.bank.specs.Bank.{loaded, swapped};
 ghost use Rattle.bank.specs.Windows.{below-after, window};
-
 use crate::Bank;
 use crate::NoWord;
 
@@ -27,7 +26,11 @@ impl<B: Bank> Window<B> {
     pub fn into_inner(self) -> B
         ensures { λ r. ⌜ r ≡ self .below ⌝ }
     {
-        let Window { below, base: _, count: _ } = self;
+        let Window {
+            below,
+            base: _,
+            count: _,
+        } = self;
         below
     }
 }
@@ -40,7 +43,11 @@ pub impl<B: Bank> Bank for Window<B> as WindowIsBank {
         ensures fits { λ r. ⌜ now (self .entry) .base + r < 2 ^ 64 ⌝ }
     {
         let all = self.below.size();
-        if self.base < all { self.count.min(all - self.base) } else { 0 }
+        if self.base < all {
+            self.count.min(all - self.base)
+        } else {
+            0
+        }
     }
 
     fn load(&self, i: u64) -> Result<u64, NoWord> {

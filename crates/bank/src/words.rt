@@ -2,7 +2,6 @@ ghost use denote.Ref.{name};
 ghost use denote.Ref.{now as held};
 ghost use mathlib.Core.Path.{_≡_};
 ghost use Rattle.bank.specs.Bank.{loaded, swapped};
-
 use crate::Bank;
 use crate::NoWord;
 

@@ -1,6 +1,5 @@
 ghost use Prim.Native.Nat.{_*_, _+_, _/_, _<_, _≤_};
-ghost use denote.Ref.{name};
-ghost use denote.Ref.{now as held};
+ghost use denote.Ref.{name, now as held};
 ghost use lib.ListN.{length};
 ghost use mathlib.Core.Path.{_≡_};
 ghost use Rattle.bank.specs.Bank.{loaded, swapped};

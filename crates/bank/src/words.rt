@@ -1,5 +1,4 @@
-ghost use denote.Ref.{name};
-ghost use denote.Ref.{now as held};
+ghost use denote.Ref.{name, now as held};
 ghost use mathlib.Core.Path.{_≡_};
 ghost use Rattle.bank.specs.Bank.{loaded, swapped};
 use crate::Bank;

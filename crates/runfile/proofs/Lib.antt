@@ -3,3 +3,8 @@ mod Sequences
 mod Records
 mod Calls
 mod Whole
+mod Digits
+mod Fields
+mod RecordFormat
+mod CallFormat
+mod FileFormat

@@ -30,6 +30,10 @@ unfolding reading
 reading-parts bs records calls s p =
     ap (λ o. unless o (joined (records-part bs) (calls-part bs) (setting-of bs))) (p .0) ∙ rw (p .1, p .2, p .3)
 
+pub reading-outer : (bs : List ℕ) (place : ℕ) → outer-fault bs ≡ Some place → reading bs ≡ Err place
+unfolding reading
+reading-outer bs place e = ap (λ o. unless o (joined (records-part bs) (calls-part bs) (setting-of bs))) e
+
 -- where the length and the trailer are sound, the parts lie before the trailer
 pub no-outer-fault : (bs : List ℕ) → outer-fault bs ≡ None
     → (12 ≤ length bs) × (length bs ≤ 65536) × (setting-of bs .words ≤ 256) × (first-call bs ≤ trailer-place bs)

@@ -9,6 +9,7 @@ ghost use Rattle.std.specs.declared.option.Option.the-variants.{Some, None};
 ghost use Rattle.std.specs.Options.{Cases as BySome, mapped};
 ghost use Rattle.runfile.specs.declared.file.Fault.the-variants.{At, Memory};
 ghost use Rattle.runfile.specs.Format.{used-by};
+ghost use Rattle.runfile.specs.Laws.{Read-or-first, Reads-back};
 ghost use Rattle.runfile.specs.Reading.{number-at, entry-at, entries-at, has-record, record-at, record-size, recorded, records-in, action-of, has-call, call-at, calls-in, first-call, outer-fault, records-part, calls-part, setting-of, reading, contents, Answers, Fault-at};
 use super::file::Action;
 use super::file::Call;
@@ -242,8 +243,8 @@ pub fn split(bytes: &[u8]) -> Result<Parts<'_>, Fault>
     })
 }
 
-/// The run file that the bytes hold, or its first fault, or want of memory.
-pub fn read(heap: Global, bytes: &[u8]) -> Result<RunFile, Fault>
+/// The run file that the bytes hold, put together from its parts.
+fn joined_parts(heap: Global, bytes: &[u8]) -> Result<RunFile, Fault>
     ensures { λ r. ⌜ Answers contents r (reading (now (bytes .entry))) ⌝ }
 {
     let parts = split(bytes)?;
@@ -254,4 +255,13 @@ pub fn read(heap: Global, bytes: &[u8]) -> Result<RunFile, Fault>
         calls,
         setting: parts.setting,
     })
+}
+
+/// The run file that the bytes hold, or the place of its first fault, or want of memory.
+pub fn read(heap: Global, bytes: &[u8]) -> Result<RunFile, Fault>
+    ensures answer { λ r. ⌜ Answers contents r (reading (now (bytes .entry))) ⌝ }
+    ensures told { λ r. ⌜ Read-or-first (now (bytes .entry)) r ⌝ }
+    ensures back { λ r. ⌜ Reads-back (now (bytes .entry)) r ⌝ }
+{
+    joined_parts(heap, bytes)
 }

@@ -3,6 +3,7 @@
 mod list;
 
 pub use list::Entries;
+pub use list::law_stands;
 
 /// What a k-CAS asks of one word: the value expected there and the value to store.
 #[derive(Clone, Copy)]

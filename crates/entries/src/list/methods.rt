@@ -1,15 +1,12 @@
 ghost use mathlib.Core.Path.{_≡_};
 ghost use mathlib.Core.Bool.{false, cond};
 ghost use mathlib.Core.List.{_∷_, []};
-ghost use Prim.Native.Nat.{ℕ, _<_};
-ghost use lib.Dec.{ltb};
-ghost use lib.ListN.{length, getD};
+ghost use Prim.Native.Nat.{_<_};
+ghost use lib.ListN.{length};
 ghost use Rattle.std.specs.Orderings.{Decides};
 ghost use Rattle.std.specs.Results.{isOk};
-ghost use Rattle.std.specs.declared.option.Option.the-variants.{Some, None};
-ghost use Rattle.std.specs.declared.result.Result.the-variants.{Ok, Err};
 ghost use Rattle.entries.specs.Lists.{zero-entry, may-stand, lawful, Lawful};
-ghost use Rattle.entries.specs.Listed.{listed, filling};
+ghost use Rattle.entries.specs.Listed.{listed, entry-of, filling, Test-is-law, Always-lawful};
 use super::super::Entry;
 use super::super::Unlawful;
 use super::Entries;
@@ -81,30 +78,35 @@ impl Entries {
         Ok(())
     }
 
+    /// The entries, in order.
+    pub fn as_slice(&self) -> &[Entry]
+        ensures { λ r. ⌜ now r ≡ listed (now (self .entry)) ⌝ }
+    {
+        &self.entries[0..self.count as usize]
+    }
+
     /// How many entries there are.
     pub fn len(&self) -> usize
-        ensures count { λ r. ⌜ r ≡ length (listed (now (self .entry))) ⌝ }
-        ensures law { λ _. ⌜ Lawful (listed (now (self .entry))) ⌝ }
+        ensures { λ r. ⌜ r ≡ length (listed (now (self .entry))) ⌝ }
     {
-        self.count as usize
+        self.as_slice().len()
     }
 
     /// The entry at `i`, if there are that many.
     pub fn get(&self, i: usize) -> Option<Entry>
-        ensures { λ r. ⌜ r ≡ cond (ltb i (length (listed (now (self .entry))))) (Some (getD (listed (now (self .entry))) i zero-entry)) None ⌝ }
+        ensures { λ r. ⌜ r ≡ entry-of (now (self .entry)) i ⌝ }
     {
-        if i < self.count as usize {
-            Some(self.entries[i])
+        let entries = self.as_slice();
+        if i < entries.len() {
+            Some(entries[i])
         } else {
             None
         }
     }
-
-    /// The entries, in order.
-    pub fn as_slice(&self) -> &[Entry]
-        ensures entries { λ r. ⌜ now r ≡ listed (now (self .entry)) ⌝ }
-        ensures law { λ r. ⌜ Lawful (now r) ⌝ }
-    {
-        &self.entries[0..self.count as usize]
-    }
 }
+
+/// The test that `fill` makes is the law itself, and every list that can be had is lawful.
+pub fn law_stands()
+    ensures test { λ _. ⌜ Test-is-law ⌝ }
+    ensures lists { λ _. ⌜ Always-lawful ⌝ }
+{}

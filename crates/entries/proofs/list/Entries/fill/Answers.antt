@@ -16,7 +16,7 @@ pub returns-then-not-is-lawful : need.returns-then-not-is-lawful
 returns-then-not-is-lawful c =
     record {
       answer = search needs;
-      law = decides-at _ _ (c .if-not-is-lawful .ensures tt) (decides-lawful (c .args .from .now));
+      law = search (needs, decides-lawful, decides-at);
       filled = search needs;
       refused = search needs;
     }
@@ -26,9 +26,7 @@ copied-more : (to from : List Entry) (i : ℕ) → i < length to → i < length 
 copied-more to from i l m e = take-more-set to i _ l ∙ (ap (λ es. es ++ entry-at from i ∷ []) e ∙ sym (take-more from i zero-entry m))
 
 pub loop-i-again : need.loop-i-again
-loop-i-again c =
-    let inside : c .loop-i .i < length (c .loop-i .entries) = search needs in
-    (simp length-set (c .loop-i .inv .0), copied-more _ _ _ inside (c .loop-i-test .taken) (c .loop-i .inv .1))
+loop-i-again c = search (needs, copied-more, length-set)
 
 -- all of them are copied
 copied-all : (to from : List Entry) (i : ℕ) → i ≤ length from → length from ≤ i → take i to ≡ take i from → take (length from) to ≡ from
@@ -37,14 +35,13 @@ copied-all to from i l m e =
     subst (λ n. take n to ≡ take n from) end e ∙ take-all (length from) from (omega arith)
 
 pub ghost-self : need.ghost-self
-ghost-self c = (holds-lawful _ _ (c .loop-i .inv .0) (copied-all _ _ _ (c .loop-i .kept .i-end) (c .loop-i-test .left) (c .loop-i .inv .1)) (sym (c .if-not-is-lawful .ensures tt)), tt)
+ghost-self c = search (needs, holds-lawful, copied-all)
 
 pub returns : need.returns
 returns c =
     record {
       answer = search needs;
-      law = decides-at _ _ (c .if-not-is-lawful .ensures tt) (decides-lawful (c .args .from .now));
-      filled =
-          copied-all _ _ _ (c .loop-i .kept .i-end) (c .loop-i-test .left) (c .loop-i .inv .1) ∙ sym (cond-true _ _ _ (sym (c .if-not-is-lawful .ensures tt)));
+      law = search (needs, decides-lawful, decides-at);
+      filled = search (needs, copied-all, cond-true);
       refused = search needs;
     }

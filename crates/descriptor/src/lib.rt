@@ -1,0 +1,80 @@
+//! The reusable descriptor, a weak descriptor: contents of any type under a sequence number. Each creation takes the next
+//! number and overtakes every earlier one. (Arbel-Raviv and Brown, "Reuse, don't recycle", DISC 2017.)
+ghost use mathlib.Core.Path.{_≡_};
+ghost use Rattle.descriptor.specs.Descriptors.{fresh, creation, created, seen, reading, change-answer, changed};
+ghost use Rattle.descriptor.specs.Laws.{Laws};
+
+/// The contents of the newest creation, under the number that it took.
+#[derive(Clone, Copy)]
+pub struct Descriptor<T> {
+    last: u64,
+    contents: T,
+}
+
+/// The last number that a creation can take, 2^47 - 1.
+pub const LAST_NUMBER: u64 = 140737488355327;
+
+/// Every number is taken (refusal 12).
+#[derive(Clone, Copy)]
+pub struct UsedUp;
+
+/// The number is not that of the newest creation.
+#[derive(Clone, Copy)]
+pub struct Overtaken;
+
+/// A change of contents in place.
+pub trait Change<T> {
+    ghost changes: { Self → T → T };
+
+    fn apply(self, contents: &mut T)
+        ensures { λ _. ⌜ now (contents .exit) ≡ changes self (now (contents .entry)) ⌝ };
+}
+
+impl<T> Descriptor<T> {
+    /// A descriptor of which nothing is created yet. The first creation takes the number `first`.
+    pub fn new(first: u64, contents: T) -> Descriptor<T>
+        ensures { λ r. ⌜ r ≡ fresh first contents ⌝ }
+    {
+        Descriptor { last: first.saturating_sub(1), contents }
+    }
+
+    /// The contents, if the number is that of the newest creation.
+    pub fn read(&self, number: u64) -> Result<&T, Overtaken>
+        ensures { λ r. ⌜ seen r ≡ reading (now (self .entry)) number ⌝ }
+    {
+        if number == self.last { Ok(&self.contents) } else { Err(Overtaken) }
+    }
+
+    /// Makes the change, if the number is that of the newest creation.
+    pub fn change<C: Change<T> + Drop>(&mut self, number: u64, change: C) -> Result<(), Overtaken>
+        ensures answer { λ r. ⌜ r ≡ change-answer (now (self .entry)) number ⌝ }
+        ensures contents { λ _. ⌜ now (self .exit) ≡ changed (C·Change .changes change) (now (self .entry)) number ⌝ }
+    {
+        if number != self.last {
+            return Err(Overtaken);
+        }
+        change.apply(&mut self.contents);
+        Ok(())
+    }
+
+    /// The laws of descriptors.
+    pub fn laws_stand()
+        ensures { λ _. ⌜ Laws T ⌝ }
+    {
+    }
+}
+
+impl<T: Drop> Descriptor<T> {
+    /// Takes the next number and puts in whole new contents, unless every number is taken.
+    pub fn create(&mut self, contents: T) -> Result<u64, UsedUp>
+        ensures number { λ r. ⌜ r ≡ creation (now (self .entry)) ⌝ }
+        ensures contents { λ _. ⌜ now (self .exit) ≡ created (now (self .entry)) contents ⌝ }
+    {
+        if self.last >= LAST_NUMBER {
+            return Err(UsedUp);
+        }
+        self.last += 1;
+        self.contents = contents;
+        Ok(self.last)
+    }
+}

@@ -22,14 +22,14 @@ after-rises d (change f n ∷ acts) = after-rises (changed f d n) acts
 pub laws : {T : Type 0} → Laws T
 laws {T} =
     record {
-        first-number = λ first x h k. grind (arith, tells);
-        numbers-rise = λ d x n e. (grind (arith, tells), grind (arith, tells));
-        numbers-left = λ d h. grind (arith, tells);
-        used-up = λ d x h. (grind (arith, tells), grind (arith, tells));
-        newest-read = λ d x n e. grind (arith, tells);
-        others-overtaken = λ d x n m e h. grind (arith, tells);
-        stays-overtaken = λ d acts n h. let rise = after-rises d acts in grind (arith, tells);
-        stale = λ d f n h. (grind (arith, tells), grind (arith, tells), grind (arith, tells));
-        change-made = λ d f x n e. (grind (arith, tells), grind (arith, tells));
-        number-kept = λ d f n. refl
+      first-number = λ first x h k. grind (arith, tells);
+      numbers-rise = λ d x n e. (grind (arith, tells), grind (arith, tells));
+      numbers-left = λ d h. grind (arith, tells);
+      used-up = λ d x h. (grind (arith, tells), grind (arith, tells));
+      newest-read = λ d x n e. grind (arith, tells);
+      others-overtaken = λ d x n m e h. grind (arith, tells);
+      stays-overtaken = λ d acts n h. let rise = after-rises d acts in grind (arith, tells);
+      stale = λ d f n h. (grind (arith, tells), grind (arith, tells), grind (arith, tells));
+      change-made = λ d f x n e. (grind (arith, tells), grind (arith, tells));
+      number-kept = λ d f n. refl;
     }

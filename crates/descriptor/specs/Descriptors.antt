@@ -18,7 +18,7 @@ fresh first x = record { last = first - 1; contents = x }
 
 -- what a creation answers: the next number, or that all are taken
 abbrev pub creation : {T : Type 0} → Descriptor T → Result ℕ UsedUp
-creation d = cond (ltb (d .last) last-number) (Ok (d .last + 1)) (Err (record { }))
+creation d = cond (ltb (d .last) last-number) (Ok (d .last + 1)) (Err (record {}))
 
 -- what a creation leaves: the contents put in under the next number, or nothing changed
 abbrev pub created : {T : Type 0} → Descriptor T → T → Descriptor T
@@ -26,7 +26,7 @@ created d x = cond (ltb (d .last) last-number) (record { last = d .last + 1; con
 
 -- what a read through the number n answers
 abbrev pub reading : {T : Type 0} → Descriptor T → ℕ → Result T Overtaken
-reading d n = cond (eqb n (d .last)) (Ok (d .contents)) (Err (record { }))
+reading d n = cond (eqb n (d .last)) (Ok (d .contents)) (Err (record {}))
 
 -- a read's answer with the contents themselves for the reference to them
 abbrev pub seen : {T : Type 0} → Result (RefT T) Overtaken → Result T Overtaken
@@ -35,7 +35,7 @@ seen (Err e) = Err e
 
 -- what a change through the number n answers
 abbrev pub change-answer : {T : Type 0} → Descriptor T → ℕ → Result (Unit {0}) Overtaken
-change-answer d n = cond (eqb n (d .last)) (Ok tt) (Err (record { }))
+change-answer d n = cond (eqb n (d .last)) (Ok tt) (Err (record {}))
 
 -- what a change f through the number n leaves
 abbrev pub changed : {T : Type 0} → (T → T) → Descriptor T → ℕ → Descriptor T

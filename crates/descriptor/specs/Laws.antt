@@ -25,15 +25,15 @@ pub record Laws (T : Type 0) : Type 0 where
   -- Before the last number is taken, a creation is never refused.
   pub numbers-left : (d : Descriptor T) → d .last < last-number → creation d ≡ Ok (d .last + 1)
   -- From then on every creation is refused, and changes nothing.
-  pub used-up : (d : Descriptor T) (x : T) → last-number ≤ d .last → (creation d ≡ Err (record { })) × (created d x ≡ d)
+  pub used-up : (d : Descriptor T) (x : T) → last-number ≤ d .last → (creation d ≡ Err (record {})) × (created d x ≡ d)
   -- A read through the number that a creation took gives exactly the contents put in.
   pub newest-read : (d : Descriptor T) (x : T) (n : ℕ) → creation d ≡ Ok n → reading (created d x) n ≡ Ok x
   -- A creation overtakes every other number.
-  pub others-overtaken : (d : Descriptor T) (x : T) (n m : ℕ) → creation d ≡ Ok n → (m ≡ n → ⊥) → reading (created d x) m ≡ Err (record { })
+  pub others-overtaken : (d : Descriptor T) (x : T) (n m : ℕ) → creation d ≡ Ok n → (m ≡ n → ⊥) → reading (created d x) m ≡ Err (record {})
   -- Once overtaken, a number stays so, whatever is done.
-  pub stays-overtaken : (d : Descriptor T) (acts : List (Act T)) (n : ℕ) → n < d .last → reading (after d acts) n ≡ Err (record { })
+  pub stays-overtaken : (d : Descriptor T) (acts : List (Act T)) (n : ℕ) → n < d .last → reading (after d acts) n ≡ Err (record {})
   -- Through a number that is not the newest, a read and a change are overtaken, and nothing is altered.
-  pub stale : (d : Descriptor T) (f : T → T) (n : ℕ) → (n ≡ d .last → ⊥) → (reading d n ≡ Err (record { })) × (change-answer d n ≡ Err (record { })) × (changed f d n ≡ d)
+  pub stale : (d : Descriptor T) (f : T → T) (n : ℕ) → (n ≡ d .last → ⊥) → (reading d n ≡ Err (record {})) × (change-answer d n ≡ Err (record {})) × (changed f d n ≡ d)
   -- Through the newest number a change is made, and a read gives the changed contents.
   pub change-made : (d : Descriptor T) (f : T → T) (x : T) (n : ℕ) → reading d n ≡ Ok x → (change-answer d n ≡ Ok tt) × (reading (changed f d n) n ≡ Ok (f x))
   -- A change keeps the number.

@@ -1,2 +1,3 @@
 pub mod Descriptors
 pub mod Laws
+pub mod Contents

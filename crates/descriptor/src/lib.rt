@@ -4,6 +4,15 @@ ghost use mathlib.Core.Path.{_≡_};
 ghost use Rattle.descriptor.specs.Descriptors.{fresh, creation, created, seen, reading, change-answer, changed};
 ghost use Rattle.descriptor.specs.Laws.{Laws};
 
+mod contents;
+
+pub use contents::Decide;
+pub use contents::Deciding;
+pub use contents::Operation;
+pub use contents::Outcome;
+pub use contents::Placing;
+pub use contents::State;
+
 /// The contents of the newest creation, under the number that it took.
 #[derive(Clone, Copy)]
 pub struct Descriptor<T> {
@@ -15,11 +24,11 @@ pub struct Descriptor<T> {
 pub const LAST_NUMBER: u64 = 140737488355327;
 
 /// Every number is taken (refusal 12).
-#[derive(Clone, Copy)]
+#[derive(Clone, Copy, Debug)]
 pub struct UsedUp;
 
 /// The number is not that of the newest creation.
-#[derive(Clone, Copy)]
+#[derive(Clone, Copy, Debug)]
 pub struct Overtaken;
 
 /// A change of contents in place.
@@ -35,14 +44,21 @@ impl<T> Descriptor<T> {
     pub fn new(first: u64, contents: T) -> Descriptor<T>
         ensures { λ r. ⌜ r ≡ fresh first contents ⌝ }
     {
-        Descriptor { last: first.saturating_sub(1), contents }
+        Descriptor {
+            last: first.saturating_sub(1),
+            contents,
+        }
     }
 
     /// The contents, if the number is that of the newest creation.
     pub fn read(&self, number: u64) -> Result<&T, Overtaken>
         ensures { λ r. ⌜ seen r ≡ reading (now (self .entry)) number ⌝ }
     {
-        if number == self.last { Ok(&self.contents) } else { Err(Overtaken) }
+        if number == self.last {
+            Ok(&self.contents)
+        } else {
+            Err(Overtaken)
+        }
     }
 
     /// Makes the change, if the number is that of the newest creation.
@@ -60,8 +76,7 @@ impl<T> Descriptor<T> {
     /// The laws of descriptors.
     pub fn laws_stand()
         ensures { λ _. ⌜ Laws T ⌝ }
-    {
-    }
+    {}
 }
 
 impl<T: Drop> Descriptor<T> {
@@ -76,5 +91,57 @@ impl<T: Drop> Descriptor<T> {
         self.last += 1;
         self.contents = contents;
         Ok(self.last)
+    }
+}
+
+#[cfg(test)]
+mod tests {
+    use super::*;
+    use std::test::*;
+
+    #[test]
+    fn the_last_number_is_taken_once() -> Result<(), Fail> {
+        let mut kept = Descriptor::new(LAST_NUMBER, 5u8);
+        check_eq(kept.create(6)?, LAST_NUMBER)?;
+        check(kept.create(7).is_err())?;
+        check_eq(*kept.read(LAST_NUMBER)?, 6)
+    }
+
+    #[test]
+    fn overtaken_alters_nothing() -> Result<(), Fail> {
+        let mut kept = Descriptor::new(1, Operation::new(None));
+        let first = kept.create(Operation::new(None))?;
+        let second = kept.create(Operation::new(None))?;
+        let success = Decide {
+            outcome: Outcome::Succeeded,
+        };
+        check(kept.read(first).is_err())?;
+        check(kept.change(first, success).is_err())?;
+        match kept.read(second)?.state() {
+            State::Undecided => Ok(()),
+            _ => Err(Fail::new("altered")),
+        }
+    }
+
+    #[test]
+    fn a_decided_state_stays() -> Result<(), Fail> {
+        let mut kept = Descriptor::new(1, Operation::new(None));
+        let number = kept.create(Operation::new(None))?;
+        kept.change(
+            number,
+            Decide {
+                outcome: Outcome::Failed(3),
+            },
+        )?;
+        kept.change(
+            number,
+            Decide {
+                outcome: Outcome::Succeeded,
+            },
+        )?;
+        match kept.read(number)?.state() {
+            State::Failed(i) => check_eq(i, 3),
+            _ => Err(Fail::new("not failed")),
+        }
     }
 }

@@ -1,5 +1,5 @@
 //! The reusable descriptor, a weak descriptor: contents of any type under a sequence number. Each creation takes the next
-//! number and overtakes every earlier one. (Arbel-Raviv and Brown, "Reuse, don't recycle", DISC 2017.)
+//! number and overtakes every earlier one. (Weak descriptors: Arbel-Raviv and Brown, DISC 2017.)
 ghost use mathlib.Core.Path.{_≡_};
 ghost use Rattle.descriptor.specs.Descriptors.{fresh, creation, created, seen, reading, change-answer, changed};
 ghost use Rattle.descriptor.specs.Laws.{Laws};
@@ -64,7 +64,7 @@ impl<T> Descriptor<T> {
     /// Makes the change, if the number is that of the newest creation.
     pub fn change<C: Change<T> + Drop>(&mut self, number: u64, change: C) -> Result<(), Overtaken>
         ensures answer { λ r. ⌜ r ≡ change-answer (now (self .entry)) number ⌝ }
-        ensures contents { λ _. ⌜ now (self .exit) ≡ changed (C·Change .changes change) (now (self .entry)) number ⌝ }
+        ensures after { λ _. ⌜ now (self .exit) ≡ changed (C·Change .changes change) (now (self .entry)) number ⌝ }
     {
         if number != self.last {
             return Err(Overtaken);
@@ -73,7 +73,7 @@ impl<T> Descriptor<T> {
         Ok(())
     }
 
-    /// The laws of descriptors.
+    /// The laws of descriptors, for contents of any type: what each creation, read and change means for the others.
     pub fn laws_stand()
         ensures { λ _. ⌜ Laws T ⌝ }
     {}
@@ -82,8 +82,8 @@ impl<T> Descriptor<T> {
 impl<T: Drop> Descriptor<T> {
     /// Takes the next number and puts in whole new contents, unless every number is taken.
     pub fn create(&mut self, contents: T) -> Result<u64, UsedUp>
-        ensures number { λ r. ⌜ r ≡ creation (now (self .entry)) ⌝ }
-        ensures contents { λ _. ⌜ now (self .exit) ≡ created (now (self .entry)) contents ⌝ }
+        ensures answer { λ r. ⌜ r ≡ creation (now (self .entry)) ⌝ }
+        ensures after { λ _. ⌜ now (self .exit) ≡ created (now (self .entry)) contents ⌝ }
     {
         if self.last >= LAST_NUMBER {
             return Err(UsedUp);

@@ -14,7 +14,7 @@ pub struct Entry {
 }
 
 /// The entries are no lawful list (refusal 9).
-#[derive(Clone, Copy)]
+#[derive(Clone, Copy, Debug)]
 pub struct Unlawful;
 
 #[cfg(test)]

@@ -1,8 +1,8 @@
 ghost use mathlib.Core.Path.{_≡_};
 ghost use mathlib.Core.Bool.{false, cond};
 ghost use mathlib.Core.List.{_∷_, []};
-ghost use Prim.Native.Nat.{_<_};
-ghost use lib.ListN.{length};
+ghost use Prim.Native.Nat.{_<_, _≤_};
+ghost use lib.ListN.{length, take};
 ghost use Rattle.std.specs.Orderings.{Decides};
 ghost use Rattle.std.specs.Results.{isOk};
 ghost use Rattle.entries.specs.Lists.{zero-entry, may-stand, lawful, Lawful};
@@ -46,6 +46,17 @@ fn is_lawful(entries: &[Entry]) -> bool
     true
 }
 
+/// The entries, and zero entries after them.
+fn padded(entries: &[Entry]) -> [Entry; MOST]
+    requires { ⌜ length (now entries) ≤ 8 ⌝ }
+    ensures full { λ r. ⌜ length r ≡ 8 ⌝ }
+    ensures starts { λ r. ⌜ take (length (now (entries .entry))) r ≡ now (entries .entry) ⌝ }
+{
+    let mut all = [ZERO; MOST];
+    all[0..entries.len()].copy_from_slice(entries);
+    all
+}
+
 impl Entries {
     /// A new list: the entry (0, 0, 0).
     pub fn new() -> Entries
@@ -67,12 +78,8 @@ impl Entries {
         if !is_lawful(from) {
             return Err(Unlawful);
         }
-        let mut entries = [ZERO; MOST];
-        for i in 0..from.len() {
-            entries[i] = from[i];
-        }
         *self = Entries {
-            entries,
+            entries: padded(from),
             count: from.len() as u8,
         };
         Ok(())

@@ -1,2 +1,2 @@
-mod Laws
-mod Decided
+pub mod Laws
+pub mod Decided

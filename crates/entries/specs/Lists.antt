@@ -1,5 +1,5 @@
 use mathlib.Core.List.{List}
-use mathlib.Core.Bool.{Bool, true, false, _&&_, _||_}
+use mathlib.Core.Bool.{Bool, true, _&&_, _||_}
 use Prim.Native.Nat.{ℕ, zero, suc, _-_, _^_, _<_, _≤_}
 use lib.ListN.{length, getD, take}
 use lib.Dec.{ltb, leb, eqb}

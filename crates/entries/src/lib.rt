@@ -3,6 +3,7 @@
 mod list;
 
 pub use list::Entries;
+pub use list::law_stands;
 
 /// What a k-CAS asks of one word: the value expected there and the value to store.
 #[derive(Clone, Copy)]
@@ -13,7 +14,7 @@ pub struct Entry {
 }
 
 /// The entries are no lawful list (refusal 9).
-#[derive(Clone, Copy)]
+#[derive(Clone, Copy, Debug)]
 pub struct Unlawful;
 
 #[cfg(test)]

@@ -1,15 +1,12 @@
 ghost use mathlib.Core.Path.{_≡_};
 ghost use mathlib.Core.Bool.{false, cond};
 ghost use mathlib.Core.List.{_∷_, []};
-ghost use Prim.Native.Nat.{ℕ, _<_};
-ghost use lib.Dec.{ltb};
-ghost use lib.ListN.{length, getD};
+ghost use Prim.Native.Nat.{_<_, _≤_};
+ghost use lib.ListN.{length, take};
 ghost use Rattle.std.specs.Orderings.{Decides};
 ghost use Rattle.std.specs.Results.{isOk};
-ghost use Rattle.std.specs.declared.option.Option.the-variants.{Some, None};
-ghost use Rattle.std.specs.declared.result.Result.the-variants.{Ok, Err};
 ghost use Rattle.entries.specs.Lists.{zero-entry, may-stand, lawful, Lawful};
-ghost use Rattle.entries.specs.Listed.{listed, filling};
+ghost use Rattle.entries.specs.Listed.{listed, entry-of, filling, Test-is-law, Always-lawful};
 use super::super::Entry;
 use super::super::Unlawful;
 use super::Entries;
@@ -49,6 +46,17 @@ fn is_lawful(entries: &[Entry]) -> bool
     true
 }
 
+/// The entries, and zero entries after them.
+fn padded(entries: &[Entry]) -> [Entry; MOST]
+    requires { ⌜ length (now entries) ≤ 8 ⌝ }
+    ensures full { λ r. ⌜ length r ≡ 8 ⌝ }
+    ensures starts { λ r. ⌜ take (length (now (entries .entry))) r ≡ now (entries .entry) ⌝ }
+{
+    let mut all = [ZERO; MOST];
+    all[0..entries.len()].copy_from_slice(entries);
+    all
+}
+
 impl Entries {
     /// A new list: the entry (0, 0, 0).
     pub fn new() -> Entries
@@ -70,41 +78,42 @@ impl Entries {
         if !is_lawful(from) {
             return Err(Unlawful);
         }
-        let mut entries = [ZERO; MOST];
-        for i in 0..from.len() {
-            entries[i] = from[i];
-        }
         *self = Entries {
-            entries,
+            entries: padded(from),
             count: from.len() as u8,
         };
         Ok(())
     }
 
+    /// The entries, in order.
+    pub fn as_slice(&self) -> &[Entry]
+        ensures { λ r. ⌜ now r ≡ listed (now (self .entry)) ⌝ }
+    {
+        &self.entries[0..self.count as usize]
+    }
+
     /// How many entries there are.
     pub fn len(&self) -> usize
-        ensures count { λ r. ⌜ r ≡ length (listed (now (self .entry))) ⌝ }
-        ensures law { λ _. ⌜ Lawful (listed (now (self .entry))) ⌝ }
+        ensures { λ r. ⌜ r ≡ length (listed (now (self .entry))) ⌝ }
     {
-        self.count as usize
+        self.as_slice().len()
     }
 
     /// The entry at `i`, if there are that many.
     pub fn get(&self, i: usize) -> Option<Entry>
-        ensures { λ r. ⌜ r ≡ cond (ltb i (length (listed (now (self .entry))))) (Some (getD (listed (now (self .entry))) i zero-entry)) None ⌝ }
+        ensures { λ r. ⌜ r ≡ entry-of (now (self .entry)) i ⌝ }
     {
-        if i < self.count as usize {
-            Some(self.entries[i])
+        let entries = self.as_slice();
+        if i < entries.len() {
+            Some(entries[i])
         } else {
             None
         }
     }
-
-    /// The entries, in order.
-    pub fn as_slice(&self) -> &[Entry]
-        ensures entries { λ r. ⌜ now r ≡ listed (now (self .entry)) ⌝ }
-        ensures law { λ r. ⌜ Lawful (now r) ⌝ }
-    {
-        &self.entries[0..self.count as usize]
-    }
 }
+
+/// The test that `fill` makes is the law itself, and every list that can be had is lawful.
+pub fn law_stands()
+    ensures test { λ _. ⌜ Test-is-law ⌝ }
+    ensures lists { λ _. ⌜ Always-lawful ⌝ }
+{}

@@ -1,0 +1,3 @@
+pub mod Descriptors
+pub mod Laws
+pub mod Contents

@@ -8,7 +8,7 @@ pub enum Record {
 }
 
 /// What a call asks of its core.
-#[derive(Clone, Copy, PartialEq, Eq, Debug)]
+#[derive(Clone, Copy)]
 pub enum Action {
     /// Start with the next record.
     Start,
@@ -17,14 +17,14 @@ pub enum Action {
     Halt,
 }
 
-#[derive(Clone, Copy, PartialEq, Eq, Debug)]
+#[derive(Clone, Copy)]
 pub struct Call {
     pub action: Action,
     pub core: u8,
 }
 
 /// How the machine is to be opened.
-#[derive(Clone, Copy, PartialEq, Eq, Debug)]
+#[derive(Clone, Copy)]
 pub struct Setting {
     /// The number of words in the bank.
     pub words: u16,
@@ -46,7 +46,7 @@ pub struct RunFile {
 }
 
 /// Why a run file was not read.
-#[derive(Clone, Copy, PartialEq, Eq, Debug)]
+#[derive(Clone, Copy)]
 pub enum Fault {
     /// The place, in bytes from the start, of the first offender.
     At(usize),

@@ -6,7 +6,7 @@ use entries::Entries;
 use entries::Entry;
 use word::Mark;
 
-/// How far an operation is: not yet decided, succeeded, or failed at an entry, counted from 1.
+/// How far an operation is: not yet decided, succeeded, or failed at the entry of an index, counted from 0.
 #[derive(Clone, Copy)]
 pub enum State {
     Undecided,
@@ -14,7 +14,7 @@ pub enum State {
     Failed(u8),
 }
 
-/// What an operation is decided to: success, or failure at an entry, counted from 1.
+/// What an operation is decided to: success, or failure at the entry of an index, counted from 0.
 #[derive(Clone, Copy)]
 pub enum Outcome {
     Succeeded,

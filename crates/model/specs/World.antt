@@ -1,0 +1,69 @@
+use mathlib.Core.Bool.{Bool, true, false, cond}
+use mathlib.Core.List.{List, []}
+use Prim.Native.Nat.{ℕ}
+use lib.ListN.{length, getD, set}
+use lib.Dec.{ltb}
+use Rattle.std.specs.declared.option.Option.{Option}
+use Rattle.std.specs.declared.option.Option.the-variants.{Some, None}
+use Rattle.std.specs.declared.result.Result.{Result}
+use Rattle.std.specs.declared.result.Result.the-variants.{Ok, Err}
+use Rattle.word.specs.declared.Mark.{Mark}
+use Rattle.word.specs.declared.Word.{Word}
+use Rattle.word.specs.Word.{reading-of}
+use Rattle.descriptor.specs.declared.Descriptor.{Descriptor}
+use Rattle.descriptor.specs.declared.Overtaken.{Overtaken}
+use Rattle.descriptor.specs.declared.contents.Operation.{Operation}
+use Rattle.descriptor.specs.declared.contents.Placing.{Placing}
+use Rattle.descriptor.specs.Descriptors.{reading, fresh}
+use Rattle.descriptor.specs.Contents.{undecided}
+use Rattle.model.specs.declared.place.Place.{Place}
+use Rattle.model.specs.declared.place.Place.the-variants.{Idle}
+use Rattle.model.specs.declared.place.Own.{Own}
+use Rattle.model.specs.declared.place.Own.the-variants as own
+use Rattle.model.specs.declared.table.Core.{Core}
+use Rattle.model.specs.declared.table.Table.{Table}
+
+-- All that a machine is: every raw word of its bank, and the core table.
+pub record World : Type 0 where
+  pub words : List ℕ
+  pub table : Table
+
+-- a core before its first operation, where numbers begin at first: idle, not halted, nothing created
+abbrev pub new-core : ℕ → Core
+new-core first =
+    record { place = Idle; own = own.Nothing; halted = false; operation = fresh first (undecided None); placing = fresh first (record { operation = record { core = 0; number = 0 }; word = 0; expected = 0 }) }
+
+-- what core k keeps
+abbrev pub core-at : World → ℕ → Core
+core-at w k = getD (w .table .cores) k (new-core 0)
+
+-- the word that raw word i says, if there is a word i
+abbrev pub word-at : World → ℕ → Option Word
+word-at w i = cond (ltb i (length (w .words))) (Some (reading-of (getD (w .words) i 0))) None
+
+-- what a read through an operation mark answers, and through a placing mark
+abbrev pub operation-at : World → Mark → Result Operation Overtaken
+operation-at w m = cond (ltb (m .core) 8) (reading (core-at w (m .core) .operation) (m .number)) (Err (record {}))
+
+abbrev pub placing-at : World → Mark → Result Placing Overtaken
+placing-at w m = cond (ltb (m .core) 8) (reading (core-at w (m .core) .placing) (m .number)) (Err (record {}))
+
+-- The world with other words, another table, another core k.
+abbrev pub with-words : World → List ℕ → World
+with-words w ws = record { words = ws; table = w .table }
+
+abbrev pub with-cores : Table → List Core → Table
+with-cores t cs = record { running = t .running; count = t .count; protected = t .protected; rights = t .rights; cores = cs }
+
+abbrev pub with-core : World → ℕ → Core → World
+with-core w k c = record { words = w .words; table = with-cores (w .table) (set (w .table .cores) k c) }
+
+-- The core with another place, another descriptor of each kind.
+abbrev pub with-place : Core → Place → Core
+with-place c p = record { place = p; own = c .own; halted = c .halted; operation = c .operation; placing = c .placing }
+
+abbrev pub with-operation : Core → Descriptor Operation → Core
+with-operation c d = record { place = c .place; own = c .own; halted = c .halted; operation = d; placing = c .placing }
+
+abbrev pub with-placing : Core → Descriptor Placing → Core
+with-placing c d = record { place = c .place; own = c .own; halted = c .halted; operation = c .operation; placing = d }

@@ -6,3 +6,6 @@ pub mod Calls
 pub mod Refusals
 pub mod Perform
 pub mod Histories
+pub mod Points
+pub mod Scenario
+pub mod Worked

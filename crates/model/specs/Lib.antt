@@ -9,3 +9,6 @@ pub mod Histories
 pub mod Points
 pub mod Scenario
 pub mod Worked
+pub mod Plain
+pub mod Marks
+pub mod Promises

@@ -1,3 +1,6 @@
 pub mod Rising
 pub mod Moments
-pub mod Cores
+pub mod Memory
+pub mod Facts
+pub mod Updates
+pub mod Stable

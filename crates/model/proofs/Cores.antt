@@ -1,1 +1,0 @@
-use mathlib.Core.Path.{_≡_, refl, sym, ap, _∙_, subst}

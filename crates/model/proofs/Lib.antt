@@ -4,3 +4,5 @@ pub mod Memory
 pub mod Facts
 pub mod Updates
 pub mod Stable
+pub mod Effects
+pub mod Keep

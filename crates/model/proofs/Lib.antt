@@ -6,3 +6,5 @@ pub mod Updates
 pub mod Stable
 pub mod Effects
 pub mod Keep
+pub mod Go
+pub mod RulesTry

@@ -8,3 +8,5 @@ pub mod Effects
 pub mod Keep
 pub mod Go
 pub mod RulesTry
+pub mod RulesSettle
+pub mod RulesClear

@@ -9,3 +9,4 @@ pub mod Histories
 pub mod Points
 pub mod Scenario
 pub mod Worked
+pub mod RefusalLaw

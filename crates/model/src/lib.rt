@@ -1,3 +1,10 @@
 //! The machine on paper: the plain types of the core table, and in specs/ the definition of every call.
+ghost use Rattle.model.specs.RefusalLaw.{Refusal-law};
+
 pub mod place;
 pub mod table;
+
+/// A call is refused with the first refusal whose condition holds, and then changes nothing.
+pub fn refusals_stand()
+    ensures { λ _. ⌜ Refusal-law ⌝ }
+{}

@@ -1,0 +1,2 @@
+pub mod RefusalTests
+pub mod RefusalTable

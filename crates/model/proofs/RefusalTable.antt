@@ -236,13 +236,16 @@ none-said w c none = by (refusal-of w c) refl
     by (Some q) e = absurd (none q (passes-holds w c q (match-passes (table-for w c) q e)))
     by None e = refl
 
+pub none-holds : (w : World) (c : Call) → refusal-of w c ≡ None → (q : Refusal) → Holds w c q → ⊥
+none-holds w c e q h = no-match (table-for w c) q e (holds-passes w c q h)
+
 pub refusal-law : Refusal-law
 unfolding perform
 refusal-law =
     record {
       refused-first = λ w c r e. said-first w c r (refused-by w c (refusal-of w c) r e);
       first-refused = λ w c r h. ap (λ (o : Option Refusal). unless-refused o w c .answer) (first-said w c r h);
-      granted-none = λ w c g q h. no-match (table-for w c) q (granted-by w c (refusal-of w c) (g .0) (g .1)) (holds-passes w c q h);
+      granted-none = λ w c g q h. none-holds w c (granted-by w c (refusal-of w c) (g .0) (g .1)) q h;
       none-granted = λ w c none. let a = answered w c in (a .0, ap (λ (o : Option Refusal). unless-refused o w c .answer) (none-said w c none) ∙ a .1);
       changes-nothing = λ w c r e. ap (λ (o : Option Refusal). unless-refused o w c .world) (refused-by w c (refusal-of w c) r e);
       helping-needs-no-right = λ w k h. let n = h .1 in grind arith;

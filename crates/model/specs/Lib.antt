@@ -10,3 +10,4 @@ pub mod Points
 pub mod Scenario
 pub mod Worked
 pub mod RefusalLaw
+pub mod Relation

@@ -10,3 +10,8 @@ pub mod Go
 pub mod RulesTry
 pub mod RulesSettle
 pub mod RulesClear
+pub mod RefusalTests
+pub mod RefusalTable
+pub mod Sights
+pub mod RuleExact
+pub mod RuleComplete

@@ -12,3 +12,5 @@ pub mod Worked
 pub mod Plain
 pub mod Marks
 pub mod Promises
+pub mod RefusalLaw
+pub mod Relation

@@ -1,3 +1,16 @@
 //! The machine on paper: the plain types of the core table, and in specs/ the definition of every call.
+ghost use Rattle.model.specs.RefusalLaw.{Refusal-law};
+ghost use Rattle.model.specs.Relation.{Relation-law};
+
 pub mod place;
 pub mod table;
+
+/// A call is refused with the first refusal whose condition holds, and then changes nothing.
+pub fn refusals_stand()
+    ensures { λ _. ⌜ Refusal-law ⌝ }
+{}
+
+/// A granted step follows a rule of the published algorithm, as the relation states them, and where one applies the step is that rule's.
+pub fn relation_stands()
+    ensures { λ _. ⌜ Relation-law ⌝ }
+{}

@@ -15,3 +15,4 @@ pub mod RefusalTable
 pub mod Sights
 pub mod RuleExact
 pub mod RuleComplete
+pub mod Ranges

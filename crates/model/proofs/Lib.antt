@@ -16,3 +16,4 @@ pub mod Sights
 pub mod RuleExact
 pub mod RuleComplete
 pub mod Ranges
+pub mod Views

@@ -34,7 +34,7 @@ use Rattle.model.specs.declared.table.Core.{Core}
 use Rattle.model.specs.World.{World, new-core, core-at, word-at, with-words, with-core, with-cores, with-operation, with-placing}
 use Rattle.model.specs.Rules.{by-sight, through-mark, same-mark, first-entry, after-look, after-begin, after-try, after-decide, outcome-after, after-clear-load, after-clear-swap, resume, is-undecided}
 use Rattle.model.specs.Step.{arrive, change-world, swaps, decides, makes, step-change, step-place, step-world, after-make, cleared-to, settled-to}
-use Rattle.model.specs.Relation.{goes, stores, creates, settles-on, At, Sees, Newest, Older, Current, Overtaken-operation, Rule, In-range, look-plain, look-placing, look-operation, begin-undecided, begin-decided, begin-overtaken, fetch, fetch-overtaken, make, try-placed, try-meets-placing, try-meets-own, try-meets-operation, try-differs, decide-first, decide-later, decide-overtaken, clear-read, clear-overtaken, clear-meets-placing, clear-load, clear-takes-out, clear-misses, settle-read, settle-overtaken, settle-undecided, settle-decided, settle-past, settle-replaces, settle-misses}
+use Rattle.model.specs.Relation.{goes, stores, creates, decides-on, At, Sees, Newest, Older, Current, Overtaken-operation, Rule, In-range, look-plain, look-placing, look-operation, begin-undecided, begin-decided, begin-overtaken, fetch, fetch-overtaken, make, try-placed, try-meets-placing, try-meets-own, try-meets-operation, try-differs, decide-first, decide-later, decide-overtaken, clear-read, clear-overtaken, clear-meets-placing, clear-load, clear-takes-out, clear-misses, settle-read, settle-overtaken, settle-undecided, settle-decided, settle-past, settle-replaces, settle-misses}
 use Rattle.model.proofs.Sights.{through, sees-word, newest-reads, older-reads, swap-stores, swap-misses}
 
 -- Each rule is what the step does.
@@ -121,7 +121,7 @@ state-kept : (x y : Outcome) → decided (state-of y) x ≡ state-of y
 state-kept x outcome.Succeeded = refl
 state-kept x (outcome.Failed i) = refl
 
-decided-first : (w : World) (k : ℕ) (m : Mark) (o : Operation) (x : Outcome) → Current w m o → o .state ≡ state.Undecided → change-world w k (decides m x) ≡ settles-on w m o x
+decided-first : (w : World) (k : ℕ) (m : Mark) (o : Operation) (x : Outcome) → Current w m o → o .state ≡ state.Undecided → change-world w k (decides m x) ≡ decides-on w m o x
 decided-first w k m o x (c, n, e) u =
     cond-true _ _ _ (lt-ltb (m .core) 8 c) ∙ ap (with-descriptor w (m .core)) (changed-newest (core-at w (m .core) .operation) (m .number) o x n e)
     ∙ ap (λ (s : State). with-descriptor w (m .core) (record { last = m .number; contents = record { list = o .list; state = decided s x } })) u

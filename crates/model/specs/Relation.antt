@@ -83,8 +83,8 @@ abbrev pub stores : World → ℕ → Word → World
 stores w i x = with-words w (set (w .words) i (raw-of x))
 
 -- the operation of mark m, with contents o, now has the state of the outcome x
-abbrev pub settles-on : World → Mark → Operation → Outcome → World
-settles-on w m o x =
+abbrev pub decides-on : World → Mark → Operation → Outcome → World
+decides-on w m o x =
     with-core w (m .core) (with-operation (core-at w (m .core)) (record { last = m .number; contents = record { list = o .list; state = state-of x } }))
 
 -- the number that core k's next placing takes, and the world after: its placing descriptor has the contents p under that number
@@ -127,7 +127,7 @@ pub data Rule (w : World) (k : ℕ) : World → Type 0 where
       → Rule w k (goes w k (Decide t (outcome.Failed (t .index))))
   -- Decide: the first decision gives T its state, and a later one leaves it. Then T is cleared with the state that it has, from entry 1.
   decide-first : {t : Work} {o : Operation} {x : Outcome} → At w k (Decide t x) → Current w (t .operation) o → o .state ≡ state.Undecided
-      → Rule w k (goes (settles-on w (t .operation) o x) k (Clear (first-entry (t .operation) (t .count)) x clearing.Read))
+      → Rule w k (goes (decides-on w (t .operation) o x) k (Clear (first-entry (t .operation) (t .count)) x clearing.Read))
   decide-later : {t : Work} {o : Operation} {x : Outcome} (y : Outcome) → At w k (Decide t x) → Current w (t .operation) o → o .state ≡ state-of y
       → Rule w k (goes w k (Clear (first-entry (t .operation) (t .count)) y clearing.Read))
   decide-overtaken : {t : Work} {x : Outcome} → At w k (Decide t x) → Overtaken-operation w (t .operation) → Rule w k (goes-home w k)
@@ -167,8 +167,8 @@ pub record In-range (p : Place) : Type 0 where
   pub cleared : (t : Work) (x : Outcome) (e : Entry) → p ≡ Clear t x (clearing.Swap e) → Made (t .operation)
   pub settled : (m : Mark) (q : Placing) (undecided : Bool) (j : Then) → p ≡ Settle m (settling.Swap q undecided) j → Made m
 
--- What no run brings about: the step asks for a word that is not there or, in Look and Try, is foreign, or for an entry that its operation
--- does not have.
+-- A stuck core: its step asks for a word that is not there or, in Look and Try, is foreign, or for an entry that its operation does not
+-- have.
 abbrev pub Absent : World → ℕ → Type 0
 Absent w i = length (w .words) ≤ i
 
@@ -187,7 +187,7 @@ pub data Stuck (w : World) (k : ℕ) : Type 0 where
   clear-swap-absent : {t : Work} {x : Outcome} {e : Entry} → At w k (Clear t x (clearing.Swap e)) → Absent w (e .word) → Stuck w k
   settle-absent : {m : Mark} {p : Placing} {undecided : Bool} {j : Then} → At w k (Settle m (settling.Swap p undecided) j) → Absent w (p .word) → Stuck w k
 
--- The rules say what a granted step does, and some rule applies to each.
+-- The granted step of a core whose place is in range: any rule that applies says what the step does, and one applies unless the core is stuck.
 pub record Relation-law : Type 0 where
   pub exact : (w w′ : World) (k : ℕ) → refusal-of w (steps k) ≡ None → In-range (core-at w k .place) → Rule w k w′ → perform w (steps k) .world ≡ w′
   pub complete : (w : World) (k : ℕ) → refusal-of w (steps k) ≡ None → In-range (core-at w k .place) → (Stuck w k → ⊥) → Rule w k (perform w (steps k) .world)

@@ -10,7 +10,7 @@ pub fn refusals_stand()
     ensures { λ _. ⌜ Refusal-law ⌝ }
 {}
 
-/// A granted step follows a rule of the published algorithm, as the relation states them, and where one applies the step is that rule's.
+/// A granted step is what the rule that applies says, and a rule applies unless the core is stuck; its place is to be in range.
 pub fn relation_stands()
     ensures { λ _. ⌜ Relation-law ⌝ }
 {}

@@ -15,7 +15,7 @@ use Rattle.model.specs.declared.place.Place.{Place}
 use Rattle.model.specs.declared.table.Core.{Core}
 use Rattle.model.specs.World.{World, new-core, core-at, with-core, with-place}
 use Rattle.model.specs.Shown.{entries-of}
-use Rattle.model.specs.Relation.{goes, stores, settles-on, creates, Current}
+use Rattle.model.specs.Relation.{goes, stores, decides-on, creates, Current}
 use Rattle.model.proofs.Memory.{Memory, view, upd, move, put, settled, fresh-pl}
 use Rattle.model.proofs.Updates.{upd-both, upd-at, upd-other}
 
@@ -67,8 +67,8 @@ view-stores w i x lt ok = λ k. record {
   own = view w .own;
 }
 
-pub view-settles : (w : World) (m : Mark) (o : Operation) (x : Outcome) → m .core < length (w .table .cores) → Current w m o → view (settles-on w m o x) ≡ settled (view w) (m .core) (state-of x)
-view-settles w m o x lt cur =
+pub view-decides : (w : World) (m : Mark) (o : Operation) (x : Outcome) → m .core < length (w .table .cores) → Current w m o → view (decides-on w m o x) ≡ settled (view w) (m .core) (state-of x)
+view-decides w m o x lt cur =
     view-core w (m .core) _ lt
     ∙ (λ i. record { word = view w .word; num = upd-self (view w .num) (m .core) (m .number) (cur .1) i; ents = upd-self (view w .ents) (m .core) (entries-of (o .list)) (ap (λ (y : Operation). entries-of (y .list)) (sym (cur .2))) i; state = upd (view w .state) (m .core) (state-of x); pnum = upd-self (view w .pnum) (m .core) _ refl i; pl = upd-self (view w .pl) (m .core) _ refl i; place = upd-self (view w .place) (m .core) _ refl i; own = upd-self (view w .own) (m .core) _ refl i })
 

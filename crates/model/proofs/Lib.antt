@@ -1,1 +1,3 @@
+pub mod Granting
 pub mod LateHelper
+pub mod PlainPoints

@@ -1,0 +1,50 @@
+use mathlib.Core.Path.{_≡_, refl, ap, sym, _∙_}
+use mathlib.Core.Bool.{Bool, true, false, cond, _&&_, _||_}
+use mathlib.Core.List.{List, [], _∷_, map}
+use Prim.Native.Nat.{ℕ, zero, suc, _<_, _≤_}
+use native.Mathlib.Omega.{arith}
+use lib.ListN.{getD, length}
+use lib.Dec.{leb, ltb}
+use Rattle.std.proofs.shelf.Ways.{tells}
+use Rattle.std.specs.declared.option.Option.the-variants.{Some, None}
+use Rattle.std.specs.declared.result.Result.the-variants.{Ok, Err}
+use Rattle.entries.specs.declared.list.Entries.{Entries}
+use Rattle.descriptor.specs.Descriptors.{last-number}
+use Rattle.model.specs.declared.table.Refusal.{Refusal}
+use Rattle.model.specs.declared.table.Refusal.the-variants.{UsedUp}
+use Rattle.model.specs.World.{World, core-at}
+use Rattle.model.specs.Calls.{Call, starts, steps, collects, words-of}
+use Rattle.model.specs.Refusals.{Row, first-match, some-of, table-for, refusal-of, is-idle, is-finished, is-making, has-right}
+use Rattle.model.specs.Perform.{Performed, perform, unless-refused, granted}
+
+-- What is refused and what is granted.
+
+pub perform-granted : (w : World) (c : Call) → refusal-of w c ≡ None → perform w c ≡ granted w c
+unfolding perform
+perform-granted w c e = ap (λ r. unless-refused r w c) e
+
+pub perform-refused : (w : World) (c : Call) (r : Refusal) → refusal-of w c ≡ Some r → perform w c ≡ record { answer = Err r; world = w }
+unfolding perform
+perform-refused w c r e = ap (λ x. unless-refused x w c) e
+
+-- where no row matches, the first row's test fails, and no later one matches
+first-fails : (r : Row) (rs : List Row) → first-match (r ∷ rs) ≡ None → (r .test ≡ false) × (first-match rs ≡ None)
+unfolding first-match
+first-fails r rs e = by (r .test) refl e
+  where
+    by : (b : Bool) → r .test ≡ b → cond b (Some (r .refusal)) (first-match rs) ≡ None → (r .test ≡ false) × (first-match rs ≡ None)
+    by true p q = absurd (grind arith)
+    by false p q = (p, q)
+
+-- so each test fails
+pub test-fails : (i : ℕ) (rs : List Row) → first-match rs ≡ None → getD (map (λ (r : Row). r .test) rs) i false ≡ false
+test-fails i [] e = refl
+test-fails zero (r ∷ rs) e = first-fails r rs e .0
+test-fails (suc i) (r ∷ rs) e = test-fails i rs (first-fails r rs e .1)
+
+-- A step is granted to a core that is there, not halted and at work, and that has a number left where it creates.
+pub step-granted : (w : World) (k : ℕ) → w .table .running ≡ true → k < w .table .count → k < 8 → core-at w k .halted ≡ false
+    → is-idle (core-at w k .place) ≡ false → is-finished (core-at w k .place) ≡ false
+    → (is-making (core-at w k .place) && leb last-number (core-at w k .placing .last)) ≡ false → refusal-of w (steps k) ≡ None
+unfolding first-match some-of
+step-granted w k run there eight unhalted busy unfinished left = grind (arith, tells)

@@ -1,3 +1,4 @@
 pub mod Granting
 pub mod LateHelper
+pub mod LoneRun
 pub mod PlainPoints

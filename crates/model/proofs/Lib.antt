@@ -1,4 +1,5 @@
 pub mod Granting
 pub mod LateHelper
 pub mod LoneRun
+pub mod LoneSteps
 pub mod PlainPoints

@@ -121,10 +121,10 @@ runner-changed r h ws c f =
 arrives : (r : Run) → Runs r → (ws : List ℕ) (p : Place) (s : State) (d : Descriptor Placing) (p′ : Place) → arrive (lone r ws p s d) (r .core) p′ ≡ lone r ws p′ s d
 arrives r f ws p s d p′ = runner-changed r f ws (runner r p s d) (λ c. with-place c p′)
 
-made : (r : Run) → Runs r → (ws : List ℕ) (p : Place) (s : State) (d : Descriptor Placing) (x : Placing) → change-world (lone r ws p s d) (r .core) (makes x) ≡ lone r ws p s (created d x)
+pub made : (r : Run) → Runs r → (ws : List ℕ) (p : Place) (s : State) (d : Descriptor Placing) (x : Placing) → change-world (lone r ws p s d) (r .core) (makes x) ≡ lone r ws p s (created d x)
 made r f ws p s d x = runner-changed r f ws (runner r p s d) (λ c. with-placing c (created (c .placing) x))
 
-settled-outcome : (r : Run) → Runs r → (ws : List ℕ) (p : Place) (s : State) (d : Descriptor Placing) (o : Outcome) → change-world (lone r ws p s d) (r .core) (decides (own-mark r) o) ≡ lone r ws p (decided s o) d
+pub settled-outcome : (r : Run) → Runs r → (ws : List ℕ) (p : Place) (s : State) (d : Descriptor Placing) (o : Outcome) → change-world (lone r ws p s d) (r .core) (decides (own-mark r) o) ≡ lone r ws p (decided s o) d
 settled-outcome r f ws p s d o =
     cond-true (ltb (r .core) 8) _ _ (lt-ltb (r .core) 8 (f .eight))
     ∙ runner-changed r f ws (runner r p s d) (λ c. with-operation c (changed (λ q. with-outcome q o) (c .operation) (r .number)))

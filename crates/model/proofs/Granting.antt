@@ -48,3 +48,9 @@ pub step-granted : (w : World) (k : ℕ) → w .table .running ≡ true → k < 
     → (is-making (core-at w k .place) && leb last-number (core-at w k .placing .last)) ≡ false → refusal-of w (steps k) ≡ None
 unfolding first-match some-of
 step-granted w k run there eight unhalted busy unfinished left = grind (arith, tells)
+
+-- A collect is granted of a finished core.
+pub collect-granted : (w : World) (k : ℕ) → w .table .running ≡ true → k < w .table .count → k < 8 → core-at w k .halted ≡ false
+    → is-finished (core-at w k .place) ≡ true → refusal-of w (collects k) ≡ None
+unfolding first-match some-of
+collect-granted w k run there eight unhalted finished = grind (arith, tells)

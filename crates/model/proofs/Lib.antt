@@ -2,4 +2,5 @@ pub mod Granting
 pub mod LateHelper
 pub mod LoneRun
 pub mod LoneSteps
+pub mod LoneWhole
 pub mod PlainPoints

@@ -64,6 +64,8 @@ pub record Runs (r : Run) : Type 0 where
   pub there : r .core < r .table .count
   pub eight : r .core < 8
   pub cores : length (r .table .cores) ≡ 8
+  pub numbered : 1 ≤ r .number
+  pub number-fits : r .number ≤ last-number
 
 -- the operation's mark, its entry i, and the work on that
 abbrev pub own-mark : Run → Mark

@@ -40,16 +40,28 @@ use Rattle.model.specs.declared.place.Own.the-variants as own
 use Rattle.model.specs.declared.table.Core.{Core}
 use Rattle.model.specs.World.{World, word-at}
 use Rattle.model.specs.Rules.{by-sight, through-mark, home, after-begin, after-try, after-decide, outcome-after, after-clear-load, after-clear-swap, resume, is-undecided}
-use Rattle.model.specs.Step.{after-make, cleared-to}
+use Rattle.model.specs.Step.{after-make, cleared-to, change-world, step-change, step-place}
 use Rattle.model.specs.Calls.{steps}
-use Rattle.model.specs.Refusals.{is-finished}
+use Rattle.model.specs.Refusals.{is-idle, is-finished, is-making}
 use Rattle.model.specs.Perform.{Performed, perform}
 use Rattle.model.proofs.LoneRun.{Run, Runs, own-mark, run-length, run-entry, run-work, runner, lone, runner-at, operation-here, placing-here, made, settled-outcome, step-to}
 
 -- The steps of a lone run, rule by rule. The core is at work before and after.
 
-abbrev pub Working : Run → World → World → Type 0
-Working r w v = perform w (steps (r .core)) ≡ record { answer = Ok 0; world = v }
+pub record Working (r : Run) (w v : World) : Type 0 where
+  pub performed : perform w (steps (r .core)) ≡ record { answer = Ok 0; world = v }
+
+works-to : (r : Run) → Runs r → (ws : List ℕ) (p : Place) (s : State) (d : Descriptor Placing) (ws′ : List ℕ) (p′ : Place) (s′ : State) (d′ : Descriptor Placing)
+    → is-finished p′ ≡ false → is-idle p ≡ false → is-finished p ≡ false → (is-making p && leb last-number (d .last)) ≡ false
+    → change-world (lone r ws p s d) (r .core) (step-change p) ≡ lone r ws′ p s′ d′
+    → step-place (lone r ws p s d) (r .core) (own.List (own-mark r)) p ≡ p′
+    → Working r (lone r ws p s d) (lone r ws′ p′ s′ d′)
+works-to r f ws p s d ws′ p′ s′ d′ on busy unfinished left change place =
+    record {
+      performed =
+          step-to r f ws p s d ws′ p′ s′ d′ busy unfinished left change place
+          ∙ ap (λ b. record { answer = Ok (cond b 1 0); world = lone r ws′ p′ s′ d′ }) on;
+    }
 
 -- the word that a raw word says, where there is one
 word-there : (ws : List ℕ) (i : ℕ) (x : Word) → i < length ws → reading-of (getD ws i 0) ≡ x → cond (ltb i (length ws)) (Some (reading-of (getD ws i 0))) None ≡ Some x
@@ -69,12 +81,12 @@ entry-there r i l = cond-true (ltb i (run-length r)) _ _ (lt-ltb i (run-length r
 
 pub begins : (r : Run) → Runs r → (ws : List ℕ) (d : Descriptor Placing) → Working r (lone r ws (Begin (own-mark r)) state.Undecided d) (lone r ws (Fetch (run-work r 0)) state.Undecided d)
 begins r f ws d =
-    step-to r f ws (Begin (own-mark r)) state.Undecided d ws (Fetch (run-work r 0)) state.Undecided d refl refl refl refl
+    works-to r f ws (Begin (own-mark r)) state.Undecided d ws (Fetch (run-work r 0)) state.Undecided d refl refl refl refl refl
     (ap (λ x. through-mark x (Begin (own-mark r)) (λ o. after-begin (own-mark r) (count-of (o .list)) (o .state))) (operation-here r f ws (Begin (own-mark r)) state.Undecided d))
 
 pub fetches : (r : Run) → Runs r → (ws : List ℕ) (d : Descriptor Placing) (i : ℕ) → i < run-length r → Working r (lone r ws (Fetch (run-work r i)) state.Undecided d) (lone r ws (Make (run-work r i) (run-entry r i)) state.Undecided d)
 fetches r f ws d i l =
-    step-to r f ws (Fetch (run-work r i)) state.Undecided d ws (Make (run-work r i) (run-entry r i)) state.Undecided d refl refl refl refl
+    works-to r f ws (Fetch (run-work r i)) state.Undecided d ws (Make (run-work r i) (run-entry r i)) state.Undecided d refl refl refl refl refl
     (ap (λ x. through-mark x (Begin (own-mark r)) (λ o. by-sight (entry-in (o .list) i) (Fetch (run-work r i)) (Make (run-work r i)))) (operation-here r f ws (Fetch (run-work r i)) state.Undecided d)
     ∙ ap (λ x. by-sight x (Fetch (run-work r i)) (Make (run-work r i))) (entry-there r i l))
 
@@ -92,7 +104,7 @@ placing-mark r d = record { core = r .core; number = d .last }
 pub makes-mark : (r : Run) → Runs r → (ws : List ℕ) (d : Descriptor Placing) (i : ℕ) (e : Entry) → d .last < last-number
     → Working r (lone r ws (Make (run-work r i) e) state.Undecided d) (lone r ws (Try (run-work r i) e (placing-mark r (made-for r e d))) state.Undecided (made-for r e d))
 makes-mark r f ws d i e l =
-    step-to r f ws (Make (run-work r i) e) state.Undecided d ws (Try (run-work r i) e (placing-mark r (made-for r e d))) state.Undecided (made-for r e d) refl refl
+    works-to r f ws (Make (run-work r i) e) state.Undecided d ws (Try (run-work r i) e (placing-mark r (made-for r e d))) state.Undecided (made-for r e d) refl refl refl
     (lt-leb last-number (d .last) l)
     (made r f ws (Make (run-work r i) e) state.Undecided d (placing-for r e) ∙ ap (λ x. lone r ws (Make (run-work r i) e) state.Undecided x) (cond-true (ltb (d .last) last-number) _ _ (lt-ltb (d .last) last-number l)))
     (ap (λ (c : Core). after-make (r .core) (run-work r i) e (creation (c .placing))) (runner-at r f ws (runner r (Make (run-work r i) e) state.Undecided d))
@@ -102,7 +114,7 @@ makes-mark r f ws d i e l =
 pub places : (r : Run) → Runs r → (ws : List ℕ) (d : Descriptor Placing) (t : Work) (e : Entry) (m : Mark) → e .word < length ws → getD ws (e .word) 0 ≡ raw-of (word.Plain (e .expected)) → reading-of (getD ws (e .word) 0) ≡ word.Plain (e .expected)
     → Working r (lone r ws (Try t e m) state.Undecided d) (lone r (set ws (e .word) (raw-of (word.Placing m))) (Settle m settling.Read (then.Next t)) state.Undecided d)
 places r f ws d t e m l raw says =
-    step-to r f ws (Try t e m) state.Undecided d (set ws (e .word) (raw-of (word.Placing m))) (Settle m settling.Read (then.Next t)) state.Undecided d refl refl refl
+    works-to r f ws (Try t e m) state.Undecided d (set ws (e .word) (raw-of (word.Placing m))) (Settle m settling.Read (then.Next t)) state.Undecided d refl refl refl refl
     (ap (λ x. lone r x (Try t e m) state.Undecided d) (swap-stores ws (e .word) (raw-of (word.Plain (e .expected))) (raw-of (word.Placing m)) l raw))
     (ap (λ x. by-sight x (Try t e m) (after-try t e m)) (word-there ws (e .word) (word.Plain (e .expected)) l says)
     ∙ cond-true (eqb (e .expected) (e .expected)) _ _ (eq-eqb (e .expected) (e .expected) refl))
@@ -111,7 +123,7 @@ places r f ws d t e m l raw says =
 pub differs : (r : Run) → Runs r → (ws : List ℕ) (d : Descriptor Placing) (t : Work) (e : Entry) (m : Mark) (v : ℕ) → e .word < length ws → (getD ws (e .word) 0 ≡ raw-of (word.Plain (e .expected)) → ⊥) → reading-of (getD ws (e .word) 0) ≡ word.Plain v → (v ≡ e .expected → ⊥)
     → Working r (lone r ws (Try t e m) state.Undecided d) (lone r ws (Decide t (outcome.Failed (t .index))) state.Undecided d)
 differs r f ws d t e m v l raw says ne =
-    step-to r f ws (Try t e m) state.Undecided d ws (Decide t (outcome.Failed (t .index))) state.Undecided d refl refl refl
+    works-to r f ws (Try t e m) state.Undecided d ws (Decide t (outcome.Failed (t .index))) state.Undecided d refl refl refl refl
     (ap (λ x. lone r x (Try t e m) state.Undecided d) (swap-keeps ws (e .word) (raw-of (word.Plain (e .expected))) (raw-of (word.Placing m)) raw))
     (ap (λ x. by-sight x (Try t e m) (after-try t e m)) (word-there ws (e .word) (word.Plain v) l says)
     ∙ cond-false (eqb v (e .expected)) _ _ (ne-eqb v (e .expected) ne))
@@ -120,27 +132,26 @@ differs r f ws d t e m v l raw says ne =
 pub reads-placing : (r : Run) → Runs r → (ws : List ℕ) (d : Descriptor Placing) (k : Then)
     → Working r (lone r ws (Settle (placing-mark r d) settling.Read k) state.Undecided d) (lone r ws (Settle (placing-mark r d) (settling.State (d .contents)) k) state.Undecided d)
 reads-placing r f ws d k =
-    step-to r f ws (Settle (placing-mark r d) settling.Read k) state.Undecided d ws (Settle (placing-mark r d) (settling.State (d .contents)) k) state.Undecided d refl refl refl refl
+    works-to r f ws (Settle (placing-mark r d) settling.Read k) state.Undecided d ws (Settle (placing-mark r d) (settling.State (d .contents)) k) state.Undecided d refl refl refl refl refl
     (ap (λ x. through-mark x (resume k) (λ p. Settle (placing-mark r d) (settling.State p) k)) (placing-here r f ws (Settle (placing-mark r d) settling.Read k) state.Undecided d))
 
 pub reads-state : (r : Run) → Runs r → (ws : List ℕ) (d : Descriptor Placing) (m : Mark) (e : Entry) (k : Then)
     → Working r (lone r ws (Settle m (settling.State (placing-for r e)) k) state.Undecided d) (lone r ws (Settle m (settling.Swap (placing-for r e) true) k) state.Undecided d)
 reads-state r f ws d m e k =
-    step-to r f ws (Settle m (settling.State (placing-for r e)) k) state.Undecided d ws (Settle m (settling.Swap (placing-for r e) true) k) state.Undecided d refl refl refl refl
+    works-to r f ws (Settle m (settling.State (placing-for r e)) k) state.Undecided d ws (Settle m (settling.Swap (placing-for r e) true) k) state.Undecided d refl refl refl refl refl
     (ap (λ x. through-mark x (Settle m (settling.Swap (placing-for r e) false) k) (λ o. Settle m (settling.Swap (placing-for r e) (is-undecided (o .state))) k)) (operation-here r f ws (Settle m (settling.State (placing-for r e)) k) state.Undecided d))
 
 pub settles : (r : Run) → Runs r → (ws : List ℕ) (d : Descriptor Placing) (m : Mark) (e : Entry) (k : Then) → is-finished (resume k) ≡ false → e .word < length ws → getD ws (e .word) 0 ≡ raw-of (word.Placing m)
     → Working r (lone r ws (Settle m (settling.Swap (placing-for r e) true) k) state.Undecided d) (lone r (set ws (e .word) (raw-of (word.Operation (own-mark r)))) (resume k) state.Undecided d)
 settles r f ws d m e k on l raw =
-    step-to r f ws (Settle m (settling.Swap (placing-for r e) true) k) state.Undecided d (set ws (e .word) (raw-of (word.Operation (own-mark r)))) (resume k) state.Undecided d refl refl refl
+    works-to r f ws (Settle m (settling.Swap (placing-for r e) true) k) state.Undecided d (set ws (e .word) (raw-of (word.Operation (own-mark r)))) (resume k) state.Undecided d on refl refl refl
     (ap (λ x. lone r x (Settle m (settling.Swap (placing-for r e) true) k) state.Undecided d) (swap-stores ws (e .word) (raw-of (word.Placing m)) (raw-of (word.Operation (own-mark r))) l raw))
     (ap (λ x. by-sight x (Settle m (settling.Swap (placing-for r e) true) k) (λ seen. resume k)) (word-there ws (e .word) (reading-of (getD ws (e .word) 0)) l refl))
-    ∙ ap (λ b. record { answer = Ok (cond b 1 0); world = lone r (set ws (e .word) (raw-of (word.Operation (own-mark r)))) (resume k) state.Undecided d }) on
 
 pub decides-outcome : (r : Run) → Runs r → (ws : List ℕ) (d : Descriptor Placing) (i : ℕ) (o : Outcome)
     → Working r (lone r ws (Decide (run-work r i) o) state.Undecided d) (lone r ws (Clear (run-work r 0) o clearing.Read) (state-of o) d)
 decides-outcome r f ws d i o =
-    step-to r f ws (Decide (run-work r i) o) state.Undecided d ws (Clear (run-work r 0) o clearing.Read) (state-of o) d refl refl refl
+    works-to r f ws (Decide (run-work r i) o) state.Undecided d ws (Clear (run-work r 0) o clearing.Read) (state-of o) d refl refl refl refl
     (settled-outcome r f ws (Decide (run-work r i) o) state.Undecided d o)
     (ap (λ x. through-mark x (Begin (own-mark r)) (λ p. after-decide (run-work r i) (outcome-after (p .state) o))) (operation-here r f ws (Decide (run-work r i) o) state.Undecided d))
 
@@ -148,7 +159,7 @@ decides-outcome r f ws d i o =
 pub reads-entry : (r : Run) → Runs r → (ws : List ℕ) (s : State) (d : Descriptor Placing) (i : ℕ) (o : Outcome) → i < run-length r
     → Working r (lone r ws (Clear (run-work r i) o clearing.Read) s d) (lone r ws (Clear (run-work r i) o (clearing.Load (run-entry r i))) s d)
 reads-entry r f ws s d i o l =
-    step-to r f ws (Clear (run-work r i) o clearing.Read) s d ws (Clear (run-work r i) o (clearing.Load (run-entry r i))) s d refl refl refl refl
+    works-to r f ws (Clear (run-work r i) o clearing.Read) s d ws (Clear (run-work r i) o (clearing.Load (run-entry r i))) s d refl refl refl refl refl
     (ap (λ x. through-mark x (Begin (own-mark r)) (λ p. by-sight (entry-in (p .list) i) (Clear (run-work r i) o clearing.Read) (λ e. Clear (run-work r i) o (clearing.Load e)))) (operation-here r f ws (Clear (run-work r i) o clearing.Read) s d)
     ∙ ap (λ x. by-sight x (Clear (run-work r i) o clearing.Read) (λ e. Clear (run-work r i) o (clearing.Load e))) (entry-there r i l))
 
@@ -168,7 +179,7 @@ loads-on t o e (word.Foreign n) h = refl
 pub loads-word : (r : Run) → Runs r → (ws : List ℕ) (s : State) (d : Descriptor Placing) (t : Work) (o : Outcome) (e : Entry) → e .word < length ws → is-placing (reading-of (getD ws (e .word) 0)) ≡ false
     → Working r (lone r ws (Clear t o (clearing.Load e)) s d) (lone r ws (Clear t o (clearing.Swap e)) s d)
 loads-word r f ws s d t o e l h =
-    step-to r f ws (Clear t o (clearing.Load e)) s d ws (Clear t o (clearing.Swap e)) s d refl refl refl refl
+    works-to r f ws (Clear t o (clearing.Load e)) s d ws (Clear t o (clearing.Swap e)) s d refl refl refl refl refl
     (ap (λ x. by-sight x (Clear t o (clearing.Load e)) (after-clear-load t o e)) (word-there ws (e .word) (reading-of (getD ws (e .word) 0)) l refl)
     ∙ loads-on t o e (reading-of (getD ws (e .word) 0)) h)
 

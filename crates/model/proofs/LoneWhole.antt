@@ -1,0 +1,149 @@
+use mathlib.Core.Path.{_≡_, refl, ap, sym, subst, _∙_}
+use mathlib.Core.Bool.{Bool, true, false, cond}
+use mathlib.Core.List.{List, [], _∷_, _++_, append-assoc}
+use Prim.Native.Nat.{ℕ, zero, suc, _+_, _*_, _<_, _≤_, _^_}
+use native.Mathlib.Omega.{arith}
+use lib.ListN.{length, getD, set, replicate, replicate-append-replicate}
+use lib.Dec.{ltb, eqb}
+use Rattle.std.proofs.shelf.Lists.{getD-set-same, getD-set-other, set-set, length-set}
+use Rattle.std.proofs.shelf.Tests.{cond-true, cond-false, cond-both, lt-ltb, le-ltb}
+use Rattle.std.proofs.shelf.Ways.{tells}
+use Rattle.std.specs.declared.result.Result.{Result}
+use Rattle.std.specs.declared.result.Result.the-variants.{Ok, Err}
+use Rattle.word.specs.declared.Word.{Word}
+use Rattle.word.specs.declared.Word.the-variants as word
+use Rattle.word.specs.Word.{reading-of, raw-of}
+use Rattle.word.proofs.Readings.{written-back}
+use Rattle.bank.specs.Bank.{swapped}
+use Rattle.bank.proofs.Laws.{swaps-of}
+use Rattle.entries.specs.declared.Entry.{Entry}
+use Rattle.entries.specs.Listed.{listed}
+use Rattle.entries.proofs.Law.{listed-lawful}
+use Rattle.descriptor.specs.declared.Descriptor.{Descriptor}
+use Rattle.descriptor.specs.declared.contents.State.{State}
+use Rattle.descriptor.specs.declared.contents.State.the-variants as state
+use Rattle.descriptor.specs.declared.contents.Outcome.{Outcome}
+use Rattle.descriptor.specs.declared.contents.Outcome.the-variants as outcome
+use Rattle.descriptor.specs.declared.contents.Placing.{Placing}
+use Rattle.descriptor.specs.Descriptors.{last-number}
+use Rattle.descriptor.specs.Contents.{state-of}
+use Rattle.model.specs.declared.place.Work.{Work}
+use Rattle.model.specs.declared.place.Then.the-variants as then
+use Rattle.model.specs.declared.place.Clearing.the-variants as clearing
+use Rattle.model.specs.declared.place.Settling.the-variants as settling
+use Rattle.model.specs.declared.place.Place.{Place}
+use Rattle.model.specs.declared.place.Place.the-variants.{Idle, Finished, Look, Begin, Fetch, Make, Try, Decide, Clear, Settle}
+use Rattle.model.specs.declared.place.Own.the-variants as own
+use Rattle.model.specs.declared.table.Core.{Core}
+use Rattle.model.specs.declared.table.Refusal.{Refusal}
+use Rattle.model.specs.World.{World}
+use Rattle.model.specs.Rules.{next-entry, after-clear-swap, answer-of}
+use Rattle.model.specs.Step.{cleared-to}
+use Rattle.model.specs.Calls.{Call, steps, collects}
+use Rattle.model.specs.Refusals.{is-finished, refusal-of}
+use Rattle.model.specs.Perform.{Performed, perform, answer-in}
+use Rattle.model.specs.Histories.{answers-of}
+use Rattle.model.proofs.Granting.{perform-granted, collect-granted}
+use Rattle.model.proofs.LoneRun.{Run, Runs, own-mark, run-length, run-entry, run-work, runner, runner-at, lone}
+use Rattle.model.proofs.LoneSteps.{Working, is-placing, placing-for, made-for, placing-mark, cleared, begins, fetches, makes-mark, places, differs, reads-placing, reads-state, settles, decides-outcome, reads-entry, loads-word, clears}
+
+-- A lone run from its start to its end: the steps of each entry, then all entries by induction.
+
+-- n steps, each answered "working", lead from w to v
+pub record Works (r : Run) (n : ℕ) (w v : World) : Type 0 where
+  pub answers : (cs : List Call) → answers-of w (replicate n (steps (r .core)) ++ cs) ≡ replicate n (Ok 0) ++ answers-of v cs
+
+pub none-works : (r : Run) (w : World) → Works r 0 w w
+none-works r w = record { answers = λ cs. refl }
+
+pub step-works : {w v u : World} (r : Run) (n : ℕ) → Working r w v → Works r n v u → Works r (suc n) w u
+unfolding answers-of
+step-works r n e h =
+    record { answers = λ cs. ap (λ (p : Performed). p .answer ∷ answers-of (p .world) (replicate n (steps (r .core)) ++ cs)) (e .performed) ∙ ap (λ x. Ok 0 ∷ x) (h .answers cs) }
+
+-- a list of a + b times x, and what follows it
+split : {X : Type 0} (a b : ℕ) (x : X) (xs : List X) → replicate (a + b) x ++ xs ≡ replicate a x ++ (replicate b x ++ xs)
+split a b x xs = ap (λ ys. ys ++ xs) (sym (replicate-append-replicate a b x)) ∙ append-assoc (replicate a x) (replicate b x) xs
+
+pub works-on : {w v u : World} (r : Run) (a b : ℕ) → Works r a w v → Works r b v u → Works r (a + b) w u
+works-on {w = w} {u = u} r a b h g =
+    record { answers = λ cs. ap (answers-of w) (split a b (steps (r .core)) cs) ∙ h .answers (replicate b (steps (r .core)) ++ cs) ∙ ap (λ x. replicate a (Ok 0) ++ x) (g .answers cs) ∙ sym (split a b (Ok 0) (answers-of u cs)) }
+
+-- from w, n steps are answered "working", the next one finishes, and the answer then collected is a
+pub record Ends (r : Run) (n : ℕ) (w : World) (a : ℕ) : Type 0 where
+  pub answers : answers-of w (replicate (n + 1) (steps (r .core)) ++ (collects (r .core) ∷ [])) ≡ replicate n (Ok 0) ++ (Ok 1 ∷ (Ok a ∷ []))
+
+pub works-ends : {w v : World} (r : Run) (a b x : ℕ) → Works r a w v → Ends r b v x → Ends r (a + b) w x
+works-ends {w = w} r a b x h g =
+    record {
+      answers =
+          ap (λ n. answers-of w (replicate n (steps (r .core)) ++ (collects (r .core) ∷ []))) {x = a + b + 1} {y = a + (b + 1)} (omega arith)
+          ∙ ap (answers-of w) (split a (b + 1) (steps (r .core)) (collects (r .core) ∷ []))
+          ∙ h .answers (replicate (b + 1) (steps (r .core)) ++ (collects (r .core) ∷ []))
+          ∙ ap (λ y. replicate a (Ok 0) ++ y) (g .answers)
+          ∙ sym (split a b (Ok 0) (Ok 1 ∷ (Ok x ∷ [])));
+    }
+
+-- What is kept of the words.
+
+-- every entry's word is there
+abbrev pub Within : Run → List ℕ → Type 0
+Within r ws = (j : ℕ) → j < run-length r → run-entry r j .word < length ws
+
+-- no word holds a placing mark
+abbrev pub Unplaced : List ℕ → Type 0
+Unplaced ws = (x : ℕ) → is-placing (reading-of (getD ws x 0)) ≡ false
+
+-- from entry i on, each word holds its expected value
+abbrev pub Match-from : Run → List ℕ → ℕ → Type 0
+Match-from r ws i = (j : ℕ) → i ≤ j → j < run-length r → getD ws (run-entry r j .word) 0 ≡ raw-of (word.Plain (run-entry r j .expected))
+
+-- what holds of each word holds after a store of which it holds
+each-set : (P : ℕ → Type 0) (ws : List ℕ) (i v : ℕ) → P v → ((x : ℕ) → P (getD ws x 0)) → (x : ℕ) → P (getD (set ws i v) x 0)
+each-set P [] i v p h x = h x
+each-set P (a ∷ ws) zero v p h zero = p
+each-set P (a ∷ ws) zero v p h (suc x) = h (suc x)
+each-set P (a ∷ ws) (suc i) v p h zero = h zero
+each-set P (a ∷ ws) (suc i) v p h (suc x) = each-set P ws i v p (λ y. h (suc y)) x
+
+each-swapped : (P : ℕ → Type 0) (ws : List ℕ) (i old new : ℕ) → P new → ((x : ℕ) → P (getD ws x 0)) → (x : ℕ) → P (getD (swapped ws i old new) x 0)
+each-swapped P ws i old new p h x =
+    cond-both (ltb i (length ws)) _ _ (λ ys. P (getD ys x 0))
+    (λ _. cond-both (eqb (getD ws i 0) old) _ _ (λ ys. P (getD ys x 0)) (λ _. each-set P ws i new p h x) (λ _. h x))
+    (λ _. h x)
+
+-- the operation's own mark, and the values of its list, are no placing marks
+mark-unplaced : (r : Run) → Runs r → is-placing (reading-of (raw-of (word.Operation (own-mark r)))) ≡ false
+mark-unplaced r f =
+    ap is-placing (written-back (word.Operation (own-mark r)) _ refl (f .eight, f .numbered, omega (arith, f .number-fits)))
+
+value-unplaced : (v : ℕ) → v < 2 ^ 61 → is-placing (reading-of (raw-of (word.Plain v))) ≡ false
+value-unplaced v l = ap is-placing (written-back (word.Plain v) _ refl l)
+
+cleared-unplaced : (r : Run) (i : ℕ) (o : Outcome) → i < run-length r → is-placing (reading-of (raw-of (cleared-to o (run-entry r i)))) ≡ false
+cleared-unplaced r i outcome.Succeeded l = value-unplaced (run-entry r i .new) (listed-lawful (r .list) .new-fits i l)
+cleared-unplaced r i (outcome.Failed j) l = value-unplaced (run-entry r i .expected) (listed-lawful (r .list) .expected-fits i l)
+
+-- The six steps of an entry whose word matches: T's mark is there after.
+
+unfinished-next : (t : Work) → is-finished (next-entry t) ≡ false
+unfinished-next t = cond-both (ltb (t .index + 1) (t .count)) _ _ (λ p. is-finished p ≡ false) (λ _. refl) (λ _. refl)
+
+pub entry-placed : (r : Run) → Runs r → (ws : List ℕ) (d : Descriptor Placing) (i : ℕ) (p : Place) → i < run-length r → d .last < last-number → run-entry r i .word < length ws
+    → getD ws (run-entry r i .word) 0 ≡ raw-of (word.Plain (run-entry r i .expected)) → next-entry (run-work r i) ≡ p
+    → Works r 6 (lone r ws (Fetch (run-work r i)) state.Undecided d) (lone r (set ws (run-entry r i .word) (raw-of (word.Operation (own-mark r)))) p state.Undecided (made-for r (run-entry r i) d))
+entry-placed r f ws d i p l left there raw next =
+    let e : Entry = run-entry r i in
+    let d′ : Descriptor Placing = made-for r e d in
+    let placed : List ℕ = set ws (e .word) (raw-of (word.Placing (placing-mark r d′))) in
+    let says : reading-of (getD ws (e .word) 0) ≡ word.Plain (e .expected) = written-back (word.Plain (e .expected)) (getD ws (e .word) 0) raw (listed-lawful (r .list) .expected-fits i l) in
+    let settled : Works r 1 (lone r placed (Settle (placing-mark r d′) (settling.Swap (placing-for r e) true) (then.Next (run-work r i))) state.Undecided d′) (lone r (set placed (e .word) (raw-of (word.Operation (own-mark r)))) (next-entry (run-work r i)) state.Undecided d′) =
+    step-works r 0 (settles r f placed d′ (placing-mark r d′) e (then.Next (run-work r i)) (unfinished-next (run-work r i)) (rw length-set there) (getD-set-same ws (e .word) (raw-of (word.Placing (placing-mark r d′))) 0 there)) (none-works r _) in
+    let tidied : Works r 1 (lone r placed (Settle (placing-mark r d′) (settling.Swap (placing-for r e) true) (then.Next (run-work r i))) state.Undecided d′) (lone r (set ws (e .word) (raw-of (word.Operation (own-mark r)))) p state.Undecided d′) =
+    subst (λ q. Works r 1 (lone r placed (Settle (placing-mark r d′) (settling.Swap (placing-for r e) true) (then.Next (run-work r i))) state.Undecided d′) (lone r (set ws (e .word) (raw-of (word.Operation (own-mark r)))) q state.Undecided d′)) next
+    (subst (λ xs. Works r 1 (lone r placed (Settle (placing-mark r d′) (settling.Swap (placing-for r e) true) (then.Next (run-work r i))) state.Undecided d′) (lone r xs (next-entry (run-work r i)) state.Undecided d′)) (set-set ws (e .word) (raw-of (word.Placing (placing-mark r d′))) (raw-of (word.Operation (own-mark r)))) settled) in
+    step-works r 5 (fetches r f ws d i l)
+    (step-works r 4 (makes-mark r f ws d i e left)
+    (step-works r 3 (places r f ws d′ (run-work r i) e (placing-mark r d′) there raw says)
+    (step-works r 2 (reads-placing r f placed d′ (then.Next (run-work r i)))
+    (step-works r 1 (reads-state r f placed d′ (placing-mark r d′) e (then.Next (run-work r i))) tidied))))

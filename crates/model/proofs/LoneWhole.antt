@@ -147,3 +147,94 @@ entry-placed r f ws d i p l left there raw next =
     (step-works r 3 (places r f ws d′ (run-work r i) e (placing-mark r d′) there raw says)
     (step-works r 2 (reads-placing r f placed d′ (then.Next (run-work r i)))
     (step-works r 1 (reads-state r f placed d′ (placing-mark r d′) e (then.Next (run-work r i))) tidied))))
+
+-- All entries placed: the core is to decide, and no placing mark is left.
+pub record All-placed (r : Run) (n : ℕ) (ws : List ℕ) (w : World) : Type 0 where
+  pub words : List ℕ
+  pub placing : Descriptor Placing
+  pub last : ℕ
+  pub kept : length words ≡ length ws
+  pub unplaced : Unplaced words
+  pub works : Works r n w (lone r words (Decide (run-work r last) outcome.Succeeded) state.Undecided placing)
+
+-- a store to entry i's word leaves the words of the later entries
+match-later : (r : Run) (ws : List ℕ) (i v : ℕ) → Match-from r ws i → Match-from r (set ws (run-entry r i .word) v) (i + 1)
+match-later r ws i v h j l m =
+    let above : run-entry r i .word < run-entry r j .word = listed-lawful (r .list) .ascending i j (omega arith) m in
+    getD-set-other ws (run-entry r i .word) (run-entry r j .word) v 0 (λ q. omega arith) ∙ h j (omega arith) m
+
+pub all-placed : (r : Run) → Runs r → (left i : ℕ) → i + left + 1 ≡ run-length r → (ws : List ℕ) (d : Descriptor Placing) → d .last + left < last-number
+    → Within r ws → Unplaced ws → Match-from r ws i → All-placed r (6 * (left + 1)) ws (lone r ws (Fetch (run-work r i)) state.Undecided d)
+all-placed r f zero i n ws d numbers within unplaced match =
+    record {
+      words = set ws (run-entry r i .word) (raw-of (word.Operation (own-mark r)));
+      placing = made-for r (run-entry r i) d;
+      last = i;
+      kept = length-set ws (run-entry r i .word) (raw-of (word.Operation (own-mark r)));
+      unplaced = each-set (λ x. is-placing (reading-of x) ≡ false) ws (run-entry r i .word) (raw-of (word.Operation (own-mark r))) (mark-unplaced r f) unplaced;
+      works = entry-placed r f ws d i (Decide (run-work r i) outcome.Succeeded) (omega arith) (omega arith) (within i (omega arith)) (match i (omega arith) (omega arith)) (cond-false (ltb (i + 1) (run-length r)) _ _ (le-ltb (i + 1) (run-length r) (omega arith)));
+    }
+all-placed r f (suc left) i n ws d numbers within unplaced match =
+    let ws′ : List ℕ = set ws (run-entry r i .word) (raw-of (word.Operation (own-mark r))) in
+    let d′ : Descriptor Placing = made-for r (run-entry r i) d in
+    let first : Works r 6 (lone r ws (Fetch (run-work r i)) state.Undecided d) (lone r ws′ (Fetch (run-work r (i + 1))) state.Undecided d′) =
+    entry-placed r f ws d i (Fetch (run-work r (i + 1))) (omega arith) (omega arith) (within i (omega arith)) (match i (omega arith) (omega arith)) (cond-true (ltb (i + 1) (run-length r)) _ _ (lt-ltb (i + 1) (run-length r) (omega arith))) in
+    let rest : All-placed r (6 * (left + 1)) ws′ (lone r ws′ (Fetch (run-work r (i + 1))) state.Undecided d′) =
+    all-placed r f left (i + 1) (omega arith) ws′ d′ (omega arith)
+    (λ j l. rw length-set (within j l))
+    (each-set (λ x. is-placing (reading-of x) ≡ false) ws (run-entry r i .word) (raw-of (word.Operation (own-mark r))) (mark-unplaced r f) unplaced)
+    (match-later r ws i (raw-of (word.Operation (own-mark r))) match) in
+    let count : 6 + 6 * (left + 1) ≡ 6 * (suc left + 1) = omega arith in
+    record {
+      words = rest .words;
+      placing = rest .placing;
+      last = rest .last;
+      kept = rest .kept ∙ length-set ws (run-entry r i .word) (raw-of (word.Operation (own-mark r)));
+      unplaced = rest .unplaced;
+      works = subst (λ a. Works r a (lone r ws (Fetch (run-work r i)) state.Undecided d) (lone r (rest .words) (Decide (run-work r (rest .last)) outcome.Succeeded) state.Undecided (rest .placing))) count (works-on r 6 (6 * (left + 1)) first (rest .works));
+    }
+
+-- Clearing: two steps of each entry whatever comes after, and the third to the next entry or to the end.
+entry-loaded : (r : Run) → Runs r → (ws : List ℕ) (s : State) (d : Descriptor Placing) (i : ℕ) (o : Outcome) → i < run-length r → Within r ws → Unplaced ws
+    → Works r 2 (lone r ws (Clear (run-work r i) o clearing.Read) s d) (lone r ws (Clear (run-work r i) o (clearing.Swap (run-entry r i))) s d)
+entry-loaded r f ws s d i o l within unplaced =
+    step-works r 1 (reads-entry r f ws s d i o l)
+    (step-works r 0 (loads-word r f ws s d (run-work r i) o (run-entry r i) (within i l) (unplaced (run-entry r i .word))) (none-works r _))
+
+-- a finished core's answer is collected
+collects-answer : (r : Run) → Runs r → (ws : List ℕ) (s : State) (d : Descriptor Placing) (a : ℕ) → perform (lone r ws (Finished a) s d) (collects (r .core)) .answer ≡ Ok a
+collects-answer r f ws s d a =
+    let here = runner-at r f ws (runner r (Finished a) s d) in
+    ap (λ (p : Performed). p .answer) (perform-granted (lone r ws (Finished a) s d) (collects (r .core)) (collect-granted (lone r ws (Finished a) s d) (r .core) (f .running) (f .there) (f .eight) (ap (λ (c : Core). c .halted) here) (ap (λ (c : Core). is-finished (c .place)) here)))
+    ∙ ap (λ (c : Core). Ok (answer-in (c .place))) here
+
+-- the swap of the last entry finishes
+last-cleared : (r : Run) → Runs r → (ws : List ℕ) (s : State) (d : Descriptor Placing) (i : ℕ) (o : Outcome) → i + 1 ≡ run-length r → Within r ws
+    → Ends r 0 (lone r ws (Clear (run-work r i) o (clearing.Swap (run-entry r i))) s d) (answer-of o)
+unfolding answers-of
+last-cleared r f ws s d i o n within =
+    let finished : after-clear-swap (run-work r i) o (own.List (own-mark r)) ≡ Finished (answer-of o) = grind (arith, tells) in
+    record {
+      answers =
+          ap (λ (p : Performed). p .answer ∷ answers-of (p .world) (collects (r .core) ∷ [])) (clears r f ws s d i o (run-entry r i) (Finished (answer-of o)) (within i (omega arith)) finished)
+          ∙ ap (λ x. Ok 1 ∷ (x ∷ [])) (collects-answer r f (cleared r ws o (run-entry r i)) s d (answer-of o));
+    }
+
+-- All entries cleared, from entry i on.
+pub all-cleared : (r : Run) → Runs r → (left i : ℕ) → i + left + 1 ≡ run-length r → (ws : List ℕ) (s : State) (d : Descriptor Placing) (o : Outcome)
+    → Within r ws → Unplaced ws → Ends r (3 * left + 2) (lone r ws (Clear (run-work r i) o clearing.Read) s d) (answer-of o)
+all-cleared r f zero i n ws s d o within unplaced =
+    works-ends r 2 0 (answer-of o) (entry-loaded r f ws s d i o (omega arith) within unplaced) (last-cleared r f ws s d i o (omega arith) within)
+all-cleared r f (suc left) i n ws s d o within unplaced =
+    let e : Entry = run-entry r i in
+    let ws′ : List ℕ = cleared r ws o e in
+    let same-size : length ws′ ≡ length ws = swaps-of ws (e .word) (raw-of (word.Operation (own-mark r))) (raw-of (cleared-to o e)) .same-length in
+    let on : after-clear-swap (run-work r i) o (own.List (own-mark r)) ≡ Clear (run-work r (i + 1)) o clearing.Read = cond-true (ltb (i + 1) (run-length r)) _ _ (lt-ltb (i + 1) (run-length r) (omega arith)) in
+    let swap : Works r 1 (lone r ws (Clear (run-work r i) o (clearing.Swap e)) s d) (lone r ws′ (Clear (run-work r (i + 1)) o clearing.Read) s d) =
+    step-works r 0 (record { performed = clears r f ws s d i o e (Clear (run-work r (i + 1)) o clearing.Read) (within i (omega arith)) on }) (none-works r _) in
+    let rest : Ends r (3 * left + 2) (lone r ws′ (Clear (run-work r (i + 1)) o clearing.Read) s d) (answer-of o) =
+    all-cleared r f left (i + 1) (omega arith) ws′ s d o (λ j l. omega (arith, within j l))
+    (each-swapped (λ x. is-placing (reading-of x) ≡ false) ws (e .word) (raw-of (word.Operation (own-mark r))) (raw-of (cleared-to o e)) (cleared-unplaced r i o (omega arith)) unplaced) in
+    let count : 3 + (3 * left + 2) ≡ 3 * suc left + 2 = omega arith in
+    subst (λ a. Ends r a (lone r ws (Clear (run-work r i) o clearing.Read) s d) (answer-of o)) count
+    (works-ends r 3 (3 * left + 2) (answer-of o) (works-on r 2 1 (entry-loaded r f ws s d i o (omega arith) within unplaced) swap) rest)

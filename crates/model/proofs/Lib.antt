@@ -1,5 +1,6 @@
 pub mod Granting
 pub mod LateHelper
+pub mod LonePoints
 pub mod LoneRun
 pub mod LoneStart
 pub mod LoneSteps

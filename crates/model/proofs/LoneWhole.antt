@@ -120,6 +120,11 @@ mark-unplaced r f =
 value-unplaced : (v : ℕ) → v < 2 ^ 61 → is-placing (reading-of (raw-of (word.Plain v))) ≡ false
 value-unplaced v l = ap is-placing (written-back (word.Plain v) _ refl l)
 
+-- placing T's mark leaves no placing mark
+pub stored-unplaced : (r : Run) → Runs r → (ws : List ℕ) (i : ℕ) → Unplaced ws → Unplaced (set ws i (raw-of (word.Operation (own-mark r))))
+stored-unplaced r f ws i unplaced =
+    each-set (λ x. is-placing (reading-of x) ≡ false) ws i (raw-of (word.Operation (own-mark r))) (mark-unplaced r f) unplaced
+
 cleared-unplaced : (r : Run) (i : ℕ) (o : Outcome) → i < run-length r → is-placing (reading-of (raw-of (cleared-to o (run-entry r i)))) ≡ false
 cleared-unplaced r i outcome.Succeeded l = value-unplaced (run-entry r i .new) (listed-lawful (r .list) .new-fits i l)
 cleared-unplaced r i (outcome.Failed j) l = value-unplaced (run-entry r i .expected) (listed-lawful (r .list) .expected-fits i l)
@@ -171,7 +176,7 @@ all-placed r f zero i n ws d numbers within unplaced match =
       placing = made-for r (run-entry r i) d;
       last = i;
       kept = length-set ws (run-entry r i .word) (raw-of (word.Operation (own-mark r)));
-      unplaced = each-set (λ x. is-placing (reading-of x) ≡ false) ws (run-entry r i .word) (raw-of (word.Operation (own-mark r))) (mark-unplaced r f) unplaced;
+      unplaced = stored-unplaced r f ws (run-entry r i .word) unplaced;
       works = entry-placed r f ws d i (Decide (run-work r i) outcome.Succeeded) (omega arith) (omega arith) (within i (omega arith)) (match i (omega arith) (omega arith)) (cond-false (ltb (i + 1) (run-length r)) _ _ (le-ltb (i + 1) (run-length r) (omega arith)));
     }
 all-placed r f (suc left) i n ws d numbers within unplaced match =
@@ -182,7 +187,7 @@ all-placed r f (suc left) i n ws d numbers within unplaced match =
     let rest : All-placed r (6 * (left + 1)) ws′ (lone r ws′ (Fetch (run-work r (i + 1))) state.Undecided d′) =
     all-placed r f left (i + 1) (omega arith) ws′ d′ (omega arith)
     (λ j l. rw length-set (within j l))
-    (each-set (λ x. is-placing (reading-of x) ≡ false) ws (run-entry r i .word) (raw-of (word.Operation (own-mark r))) (mark-unplaced r f) unplaced)
+    (stored-unplaced r f ws (run-entry r i .word) unplaced)
     (match-later r ws i (raw-of (word.Operation (own-mark r))) match) in
     let count : 6 + 6 * (left + 1) ≡ 6 * (suc left + 1) = omega arith in
     record {

@@ -1,6 +1,7 @@
 pub mod Granting
 pub mod LateHelper
 pub mod LonePoints
+pub mod LoneRead
 pub mod LoneRun
 pub mod LoneStart
 pub mod LoneSteps

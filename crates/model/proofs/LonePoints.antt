@@ -38,48 +38,27 @@ use Rattle.model.specs.Histories.{answers-of}
 use Rattle.model.specs.Points.{shut, Alone, Matches, after-start, Matching, Differing, Second-make-used-up, Refused-start-takes-no-number}
 use Rattle.model.proofs.Granting.{perform-refused, make-refused}
 use Rattle.model.proofs.LoneRun.{Run, Runs, own-mark, run-length, run-entry, run-work, runner, runner-at, lone}
-use Rattle.model.proofs.LoneSteps.{made-for, placing-mark, begins, fetches, makes-mark, differs, decides-outcome}
-use Rattle.model.proofs.LoneWhole.{Works, Ends, Within, Unplaced, All-placed, none-works, step-works, works-on, works-ends, entry-placed, all-placed, all-cleared, stored-unplaced}
+use Rattle.model.proofs.LoneSteps.{made-for, placing-mark, fetches, makes-mark, differs}
+use Rattle.model.proofs.LoneWhole.{Works, Ends, Within, none-works, step-works, works-on, works-ends, entry-placed, begun, decided-ends, matched-ends, stored-unplaced}
 use Rattle.model.proofs.LoneStart.{run-of, no-placing, numbers-begin, opened-plain, opened-unplaced, starts-run, starts-within, start-performed}
 
 -- The points of runs alone.
-
--- a run from its start, with the step that begins it
-begun : (s : Setting) (k : ℕ) (l : Entries) (ws : List ℕ) → Runs (run-of s k l) → Works (run-of s k l) 1 (lone (run-of s k l) ws (Begin (own-mark (run-of s k l))) state.Undecided (no-placing s)) (lone (run-of s k l) ws (Fetch (run-work (run-of s k l) 0)) state.Undecided (no-placing s))
-begun s k l ws f = step-works (run-of s k l) 0 (begins (run-of s k l) f ws (no-placing s)) (none-works (run-of s k l) _)
-
--- a run from a decision to its end
-decided-ends : (r : Run) → Runs r → (ws : List ℕ) (d : Descriptor Placing) (i : ℕ) (o : Outcome) → Within r ws → Unplaced ws → Ends r (3 * run-length r) (lone r ws (Decide (run-work r i) o) state.Undecided d) (answer-of o)
-decided-ends r f ws d i o within unplaced =
-    let some : 1 ≤ run-length r = listed-lawful (r .list) .some in
-    let count : 1 + (3 * (run-length r - 1) + 2) ≡ 3 * run-length r = omega arith in
-    subst (λ n. Ends r n (lone r ws (Decide (run-work r i) o) state.Undecided d) (answer-of o)) count
-    (works-ends r 1 (3 * (run-length r - 1) + 2) (answer-of o) (step-works r 0 (decides-outcome r f ws d i o) (none-works r _)) (all-cleared r f (run-length r - 1) 0 (omega arith) ws (state-of o) d o within unplaced))
 
 pub matching : Matching
 matching ws s k l alone matches =
     let r : Run = run-of s k l in
     let f : Runs r = starts-run ws s k l (alone .opens-well) (alone .starts-well) in
-    let within : Within r ws = starts-within ws s k l (alone .starts-well) in
-    let some : 1 ≤ run-length r = listed-lawful l .some in
     let left : s .first + run-length r ≤ last-number + 1 = alone .numbers-left in
     let one : 1 ≤ s .first = f .numbered in
-    let placed : All-placed r (6 * (run-length r - 1 + 1)) ws (lone r ws (Fetch (run-work r 0)) state.Undecided (no-placing s)) =
-    all-placed r f (run-length r - 1) 0 (omega arith) ws (no-placing s) (omega arith) within (opened-unplaced ws s (alone .opens-well)) (λ j _ m. matches j m) in
-    let whole : Ends r (1 + (6 * (run-length r - 1 + 1) + 3 * run-length r)) (lone r ws (Begin (own-mark r)) state.Undecided (no-placing s)) 0 =
-    works-ends r 1 (6 * (run-length r - 1 + 1) + 3 * run-length r) 0 (begun s k l ws f)
-    (works-ends r (6 * (run-length r - 1 + 1)) (3 * run-length r) 0 (placed .works)
-    (decided-ends r f (placed .words) (placed .placing) (placed .last) outcome.Succeeded (λ j m. omega (arith, within j m, placed .kept)) (placed .unplaced))) in
-    let count : 1 + (6 * (run-length r - 1 + 1) + 3 * run-length r) ≡ 1 + 9 * run-length r = omega arith in
     ap (λ (p : Performed). answers-of (p .world) (replicate (2 + 9 * run-length r) (steps k) ++ (collects k ∷ []))) (start-performed ws s k l f (alone .starts-well))
     ∙ ap (λ n. answers-of (lone r ws (Begin (own-mark r)) state.Undecided (no-placing s)) (replicate n (steps k) ++ (collects k ∷ []))) {x = 2 + 9 * run-length r} {y = 1 + 9 * run-length r + 1} (omega arith)
-    ∙ subst (λ n. Ends r n (lone r ws (Begin (own-mark r)) state.Undecided (no-placing s)) 0) count whole .answers
+    ∙ matched-ends r f ws (no-placing s) (omega arith) (starts-within ws s k l (alone .starts-well)) (opened-unplaced ws s (alone .opens-well)) (λ j _ m. matches j m) .answers
 
 -- Two entries, of which the first matches: after seven steps the second is to be fetched.
 first-placed : (ws : List ℕ) (s : Setting) (k : ℕ) (l : Entries) → Runs (run-of s k l) → Within (run-of s k l) ws → length (listed l) ≡ 2 → Matches ws l 0
     → Works (run-of s k l) 7 (lone (run-of s k l) ws (Begin (own-mark (run-of s k l))) state.Undecided (no-placing s)) (lone (run-of s k l) (set ws (run-entry (run-of s k l) 0 .word) (raw-of (word.Operation (own-mark (run-of s k l))))) (Fetch (run-work (run-of s k l) 1)) state.Undecided (made-for (run-of s k l) (run-entry (run-of s k l) 0) (no-placing s)))
 first-placed ws s k l f within two match =
-    works-on (run-of s k l) 1 6 (begun s k l ws f)
+    works-on (run-of s k l) 1 6 (begun (run-of s k l) f ws (no-placing s))
     (entry-placed (run-of s k l) f ws (no-placing s) 0 (Fetch (run-work (run-of s k l) 1)) (omega arith) (omega (arith, f .numbered, f .number-fits)) (within 0 (omega arith)) match (cond-true (ltb 1 (length (listed l))) _ _ (lt-ltb 1 (length (listed l)) (omega arith))))
 
 -- a plain word's value

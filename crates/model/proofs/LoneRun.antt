@@ -45,10 +45,10 @@ use Rattle.model.specs.declared.table.Table.{Table}
 use Rattle.model.specs.World.{World, new-core, core-at, word-at, operation-at, placing-at, with-cores, with-core, with-place, with-operation, with-placing}
 use Rattle.model.specs.Rules.{by-sight, through-mark, home, after-begin, after-try, after-decide, outcome-after, after-clear-load, after-clear-swap, resume, is-undecided}
 use Rattle.model.specs.Step.{Change, makes, decides, swaps, change-world, step-change, step-place, step-world, arrive, after-make, cleared-to}
-use Rattle.model.specs.Calls.{steps}
+use Rattle.model.specs.Calls.{steps, collects}
 use Rattle.model.specs.Refusals.{is-idle, is-finished, is-making}
-use Rattle.model.specs.Perform.{Performed, perform, granted}
-use Rattle.model.proofs.Granting.{perform-granted, step-granted}
+use Rattle.model.specs.Perform.{perform, collected, answer-in}
+use Rattle.model.proofs.Granting.{perform-granted, step-granted, collect-granted}
 
 -- A core that runs a list while no other core steps: each step of its run, over the few things that change in it.
 
@@ -116,7 +116,7 @@ runner-put r ws c c′ =
     ap (λ cs. record { words = ws; table = with-cores (r .table) cs }) (set-set (r .table .cores) (r .core) c c′)
 
 -- the core changed by f
-runner-changed : (r : Run) → Runs r → (ws : List ℕ) (c : Core) (f : Core → Core) → with-core (with-runner r ws c) (r .core) (f (core-at (with-runner r ws c) (r .core))) ≡ with-runner r ws (f c)
+pub runner-changed : (r : Run) → Runs r → (ws : List ℕ) (c : Core) (f : Core → Core) → with-core (with-runner r ws c) (r .core) (f (core-at (with-runner r ws c) (r .core))) ≡ with-runner r ws (f c)
 runner-changed r h ws c f =
     ap (λ x. with-core (with-runner r ws c) (r .core) (f x)) (runner-at r h ws c) ∙ runner-put r ws c (f c)
 
@@ -132,21 +132,37 @@ settled-outcome r f ws p s d o =
     ∙ runner-changed r f ws (runner r p s d) (λ c. with-operation c (changed (λ q. with-outcome q o) (c .operation) (r .number)))
     ∙ ap (λ (x : Operation). with-runner r ws (with-operation (runner r p s d) (record { last = r .number; contents = x }))) (cond-true (eqb (r .number) (r .number)) _ _ (eq-eqb (r .number) (r .number) refl))
 
--- A step from place p to place p′.
+-- A step of the core, by where it arrives.
+pub step-by : (r : Run) → Runs r → (ws : List ℕ) (c : Core) (ws′ : List ℕ) (c′ : Core)
+    → c .halted ≡ false → is-idle (c .place) ≡ false → is-finished (c .place) ≡ false → (is-making (c .place) && leb last-number (c .placing .last)) ≡ false
+    → arrive (change-world (with-runner r ws c) (r .core) (step-change (c .place))) (r .core) (step-place (with-runner r ws c) (r .core) (c .own) (c .place)) ≡ with-runner r ws′ c′
+    → perform (with-runner r ws c) (steps (r .core)) ≡ record { answer = Ok (cond (is-finished (c′ .place)) 1 0); world = with-runner r ws′ c′ }
+step-by r f ws c ws′ c′ unhalted busy unfinished left arrived =
+    let w : World = with-runner r ws c in
+    let k : ℕ = r .core in
+    let here : core-at w k ≡ c = runner-at r f ws c in
+    perform-granted w (steps k) (step-granted w k (f .running) (f .there) (f .eight) (ap (λ (x : Core). x .halted) here ∙ unhalted) (ap (λ (x : Core). is-idle (x .place)) here ∙ busy) (ap (λ (x : Core). is-finished (x .place)) here ∙ unfinished) (ap (λ (x : Core). is-making (x .place) && leb last-number (x .placing .last)) here ∙ left))
+    ∙ ap (λ (v : World). record { answer = Ok (cond (is-finished (core-at v k .place)) 1 0); world = v }) (ap (λ (x : Core). arrive (change-world w k (step-change (x .place))) k (step-place w k (x .own) (x .place))) here ∙ arrived)
+    ∙ ap (λ (x : Core). record { answer = Ok (cond (is-finished (x .place)) 1 0); world = with-runner r ws′ c′ }) (runner-at r f ws′ c′)
+
+-- A step of the run from place p to place p′.
 pub step-to : (r : Run) → Runs r → (ws : List ℕ) (p : Place) (s : State) (d : Descriptor Placing) (ws′ : List ℕ) (p′ : Place) (s′ : State) (d′ : Descriptor Placing)
     → is-idle p ≡ false → is-finished p ≡ false → (is-making p && leb last-number (d .last)) ≡ false
     → change-world (lone r ws p s d) (r .core) (step-change p) ≡ lone r ws′ p s′ d′
     → step-place (lone r ws p s d) (r .core) (own.List (own-mark r)) p ≡ p′
     → perform (lone r ws p s d) (steps (r .core)) ≡ record { answer = Ok (cond (is-finished p′) 1 0); world = lone r ws′ p′ s′ d′ }
 step-to r f ws p s d ws′ p′ s′ d′ busy unfinished left change place =
-    let w : World = lone r ws p s d in
-    let k : ℕ = r .core in
-    let here : core-at w k ≡ runner r p s d = runner-at r f ws (runner r p s d) in
-    let stepped : step-world w k ≡ lone r ws′ p′ s′ d′ =
-    ap (λ (c : Core). arrive (change-world w k (step-change (c .place))) k (step-place w k (c .own) (c .place))) here
-    ∙ ap (λ v. arrive v k (step-place w k (own.List (own-mark r)) p)) change
-    ∙ ap (λ q. arrive (lone r ws′ p s′ d′) k q) place
-    ∙ arrives r f ws′ p s′ d′ p′ in
-    perform-granted w (steps k) (step-granted w k (f .running) (f .there) (f .eight) (ap (λ (c : Core). c .halted) here) (ap (λ (c : Core). is-idle (c .place)) here ∙ busy) (ap (λ (c : Core). is-finished (c .place)) here ∙ unfinished) (ap (λ (c : Core). is-making (c .place) && leb last-number (c .placing .last)) here ∙ left))
-    ∙ ap (λ (v : World). record { answer = Ok (cond (is-finished (core-at v k .place)) 1 0); world = v }) stepped
-    ∙ ap (λ (c : Core). record { answer = Ok (cond (is-finished (c .place)) 1 0); world = lone r ws′ p′ s′ d′ }) (runner-at r f ws′ (runner r p′ s′ d′))
+    step-by r f ws (runner r p s d) ws′ (runner r p′ s′ d′) refl busy unfinished left
+    (ap (λ v. arrive v (r .core) (step-place (lone r ws p s d) (r .core) (own.List (own-mark r)) p)) change
+    ∙ ap (λ q. arrive (lone r ws′ p s′ d′) (r .core) q) place
+    ∙ arrives r f ws′ p s′ d′ p′)
+
+-- The collect of a finished core.
+pub collect-by : (r : Run) → Runs r → (ws : List ℕ) (c : Core) → c .halted ≡ false → is-finished (c .place) ≡ true
+    → perform (with-runner r ws c) (collects (r .core)) ≡ record { answer = Ok (answer-in (c .place)); world = with-runner r ws (collected c) }
+collect-by r f ws c unhalted finished =
+    let w : World = with-runner r ws c in
+    let here : core-at w (r .core) ≡ c = runner-at r f ws c in
+    perform-granted w (collects (r .core)) (collect-granted w (r .core) (f .running) (f .there) (f .eight) (ap (λ (x : Core). x .halted) here ∙ unhalted) (ap (λ (x : Core). is-finished (x .place)) here ∙ finished))
+    ∙ ap (λ (v : World). record { answer = Ok (answer-in (core-at w (r .core) .place)); world = v }) (runner-changed r f ws c collected)
+    ∙ ap (λ (x : Core). record { answer = Ok (answer-in (x .place)); world = with-runner r ws (collected c) }) here

@@ -64,7 +64,7 @@ works-to r f ws p s d ws′ p′ s′ d′ on busy unfinished left change place 
     }
 
 -- the word that a raw word says, where there is one
-word-there : (ws : List ℕ) (i : ℕ) (x : Word) → i < length ws → reading-of (getD ws i 0) ≡ x → cond (ltb i (length ws)) (Some (reading-of (getD ws i 0))) None ≡ Some x
+pub word-there : (ws : List ℕ) (i : ℕ) (x : Word) → i < length ws → reading-of (getD ws i 0) ≡ x → cond (ltb i (length ws)) (Some (reading-of (getD ws i 0))) None ≡ Some x
 word-there ws i x l e = cond-true (ltb i (length ws)) _ _ (lt-ltb i (length ws) l) ∙ ap Some e
 
 -- a swap from what is there stores, and another keeps

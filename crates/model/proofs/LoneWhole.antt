@@ -1,7 +1,7 @@
 use mathlib.Core.Path.{_≡_, refl, ap, sym, subst, _∙_}
 use mathlib.Core.Bool.{Bool, true, false, cond}
 use mathlib.Core.List.{List, [], _∷_, _++_, append-assoc}
-use Prim.Native.Nat.{ℕ, zero, suc, _+_, _*_, _<_, _≤_, _^_}
+use Prim.Native.Nat.{ℕ, zero, suc, _+_, _-_, _*_, _<_, _≤_, _^_}
 use native.Mathlib.Omega.{arith}
 use lib.ListN.{length, getD, set, replicate, replicate-append-replicate}
 use lib.Dec.{ltb, eqb}
@@ -43,8 +43,7 @@ use Rattle.model.specs.Calls.{Call, steps, collects}
 use Rattle.model.specs.Refusals.{is-finished, refusal-of}
 use Rattle.model.specs.Perform.{Performed, perform, answer-in}
 use Rattle.model.specs.Histories.{answers-of}
-use Rattle.model.proofs.Granting.{perform-granted, collect-granted}
-use Rattle.model.proofs.LoneRun.{Run, Runs, own-mark, run-length, run-entry, run-work, runner, runner-at, lone}
+use Rattle.model.proofs.LoneRun.{Run, Runs, own-mark, run-length, run-entry, run-work, runner, lone, collect-by}
 use Rattle.model.proofs.LoneSteps.{Working, is-placing, placing-for, made-for, placing-mark, cleared, begins, fetches, makes-mark, places, differs, reads-placing, reads-state, settles, decides-outcome, reads-entry, loads-word, clears}
 
 -- A lone run from its start to its end: the steps of each entry, then all entries by induction.
@@ -162,6 +161,18 @@ pub record All-placed (r : Run) (n : ℕ) (ws : List ℕ) (w : World) : Type 0 w
   pub unplaced : Unplaced words
   pub works : Works r n w (lone r words (Decide (run-work r last) outcome.Succeeded) state.Undecided placing)
 
+-- the six steps of one more entry first
+placed-on : {w v : World} (r : Run) (n : ℕ) (ws ws′ : List ℕ) → length ws′ ≡ length ws → Works r 6 w v → All-placed r n ws′ v → All-placed r (6 + n) ws w
+placed-on r n ws ws′ same-size first rest =
+    record {
+      words = rest .words;
+      placing = rest .placing;
+      last = rest .last;
+      kept = rest .kept ∙ same-size;
+      unplaced = rest .unplaced;
+      works = works-on r 6 n first (rest .works);
+    }
+
 -- a store to entry i's word leaves the words of the later entries
 match-later : (r : Run) (ws : List ℕ) (i v : ℕ) → Match-from r ws i → Match-from r (set ws (run-entry r i .word) v) (i + 1)
 match-later r ws i v h j l m =
@@ -190,14 +201,8 @@ all-placed r f (suc left) i n ws d numbers within unplaced match =
     (stored-unplaced r f ws (run-entry r i .word) unplaced)
     (match-later r ws i (raw-of (word.Operation (own-mark r))) match) in
     let count : 6 + 6 * (left + 1) ≡ 6 * (suc left + 1) = omega arith in
-    record {
-      words = rest .words;
-      placing = rest .placing;
-      last = rest .last;
-      kept = rest .kept ∙ length-set ws (run-entry r i .word) (raw-of (word.Operation (own-mark r)));
-      unplaced = rest .unplaced;
-      works = subst (λ a. Works r a (lone r ws (Fetch (run-work r i)) state.Undecided d) (lone r (rest .words) (Decide (run-work r (rest .last)) outcome.Succeeded) state.Undecided (rest .placing))) count (works-on r 6 (6 * (left + 1)) first (rest .works));
-    }
+    subst (λ a. All-placed r a ws (lone r ws (Fetch (run-work r i)) state.Undecided d)) count
+    (placed-on r (6 * (left + 1)) ws ws′ (length-set ws (run-entry r i .word) (raw-of (word.Operation (own-mark r)))) first rest)
 
 -- Clearing: two steps of each entry whatever comes after, and the third to the next entry or to the end.
 entry-loaded : (r : Run) → Runs r → (ws : List ℕ) (s : State) (d : Descriptor Placing) (i : ℕ) (o : Outcome) → i < run-length r → Within r ws → Unplaced ws
@@ -205,13 +210,6 @@ entry-loaded : (r : Run) → Runs r → (ws : List ℕ) (s : State) (d : Descrip
 entry-loaded r f ws s d i o l within unplaced =
     step-works r 1 (reads-entry r f ws s d i o l)
     (step-works r 0 (loads-word r f ws s d (run-work r i) o (run-entry r i) (within i l) (unplaced (run-entry r i .word))) (none-works r _))
-
--- a finished core's answer is collected
-collects-answer : (r : Run) → Runs r → (ws : List ℕ) (s : State) (d : Descriptor Placing) (a : ℕ) → perform (lone r ws (Finished a) s d) (collects (r .core)) .answer ≡ Ok a
-collects-answer r f ws s d a =
-    let here = runner-at r f ws (runner r (Finished a) s d) in
-    ap (λ (p : Performed). p .answer) (perform-granted (lone r ws (Finished a) s d) (collects (r .core)) (collect-granted (lone r ws (Finished a) s d) (r .core) (f .running) (f .there) (f .eight) (ap (λ (c : Core). c .halted) here) (ap (λ (c : Core). is-finished (c .place)) here)))
-    ∙ ap (λ (c : Core). Ok (answer-in (c .place))) here
 
 -- the swap of the last entry finishes
 last-cleared : (r : Run) → Runs r → (ws : List ℕ) (s : State) (d : Descriptor Placing) (i : ℕ) (o : Outcome) → i + 1 ≡ run-length r → Within r ws
@@ -222,7 +220,7 @@ last-cleared r f ws s d i o n within =
     record {
       answers =
           ap (λ (p : Performed). p .answer ∷ answers-of (p .world) (collects (r .core) ∷ [])) (clears r f ws s d i o (run-entry r i) (Finished (answer-of o)) (within i (omega arith)) finished)
-          ∙ ap (λ x. Ok 1 ∷ (x ∷ [])) (collects-answer r f (cleared r ws o (run-entry r i)) s d (answer-of o));
+          ∙ ap (λ x. Ok 1 ∷ (x ∷ [])) (ap (λ (p : Performed). p .answer) (collect-by r f (cleared r ws o (run-entry r i)) (runner r (Finished (answer-of o)) s d) refl refl));
     }
 
 -- All entries cleared, from entry i on.
@@ -243,3 +241,29 @@ all-cleared r f (suc left) i n ws s d o within unplaced =
     let count : 3 + (3 * left + 2) ≡ 3 * suc left + 2 = omega arith in
     subst (λ a. Ends r a (lone r ws (Clear (run-work r i) o clearing.Read) s d) (answer-of o)) count
     (works-ends r 3 (3 * left + 2) (answer-of o) (works-on r 2 1 (entry-loaded r f ws s d i o (omega arith) within unplaced) swap) rest)
+
+-- A run from a decision to its end.
+pub decided-ends : (r : Run) → Runs r → (ws : List ℕ) (d : Descriptor Placing) (i : ℕ) (o : Outcome) → Within r ws → Unplaced ws → Ends r (3 * run-length r) (lone r ws (Decide (run-work r i) o) state.Undecided d) (answer-of o)
+decided-ends r f ws d i o within unplaced =
+    let some : 1 ≤ run-length r = listed-lawful (r .list) .some in
+    let count : 1 + (3 * (run-length r - 1) + 2) ≡ 3 * run-length r = omega arith in
+    subst (λ n. Ends r n (lone r ws (Decide (run-work r i) o) state.Undecided d) (answer-of o)) count
+    (works-ends r 1 (3 * (run-length r - 1) + 2) (answer-of o) (step-works r 0 (decides-outcome r f ws d i o) (none-works r _)) (all-cleared r f (run-length r - 1) 0 (omega arith) ws (state-of o) d o within unplaced))
+
+placed-ends : {w : World} (r : Run) → Runs r → (n : ℕ) (ws : List ℕ) → Within r ws → All-placed r n ws w → Ends r (n + 3 * run-length r) w 0
+placed-ends r f n ws within placed =
+    works-ends r n (3 * run-length r) 0 (placed .works)
+    (decided-ends r f (placed .words) (placed .placing) (placed .last) outcome.Succeeded (λ j m. omega (arith, within j m, placed .kept)) (placed .unplaced))
+
+pub begun : (r : Run) → Runs r → (ws : List ℕ) (d : Descriptor Placing) → Works r 1 (lone r ws (Begin (own-mark r)) state.Undecided d) (lone r ws (Fetch (run-work r 0)) state.Undecided d)
+begun r f ws d = step-works r 0 (begins r f ws d) (none-works r _)
+
+-- The whole run, where every entry matches.
+pub matched-ends : (r : Run) → Runs r → (ws : List ℕ) (d : Descriptor Placing) → d .last + run-length r ≤ last-number → Within r ws → Unplaced ws → Match-from r ws 0
+    → Ends r (1 + 9 * run-length r) (lone r ws (Begin (own-mark r)) state.Undecided d) 0
+matched-ends r f ws d numbers within unplaced match =
+    let some : 1 ≤ run-length r = listed-lawful (r .list) .some in
+    let count : 1 + (6 * (run-length r - 1 + 1) + 3 * run-length r) ≡ 1 + 9 * run-length r = omega arith in
+    subst (λ n. Ends r n (lone r ws (Begin (own-mark r)) state.Undecided d) 0) count
+    (works-ends r 1 (6 * (run-length r - 1 + 1) + 3 * run-length r) 0 (begun r f ws d)
+    (placed-ends r f (6 * (run-length r - 1 + 1)) ws within (all-placed r f (run-length r - 1) 0 (omega arith) ws d (omega arith) within unplaced match)))

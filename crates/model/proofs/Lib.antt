@@ -7,3 +7,4 @@ pub mod LoneStart
 pub mod LoneSteps
 pub mod LoneWhole
 pub mod PlainPoints
+pub mod Worked

@@ -1,5 +1,5 @@
-use mathlib.Core.Path.{_≡_, refl, ap, sym, _∙_}
-use mathlib.Core.Bool.{Bool, true, false, cond, _&&_, _||_, not}
+use mathlib.Core.Path.{_≡_, refl, ap}
+use mathlib.Core.Bool.{Bool, true, false, cond, _&&_, not}
 use mathlib.Core.List.{List, [], _∷_, map}
 use Prim.Native.Nat.{ℕ, zero, suc, _+_, _<_, _≤_}
 use native.Mathlib.Omega.{arith}
@@ -9,7 +9,7 @@ use Rattle.std.proofs.shelf.Tests.{or-parts}
 use Rattle.std.proofs.shelf.Ways.{tells}
 use Rattle.std.specs.Options.{isSome}
 use Rattle.std.specs.declared.option.Option.the-variants.{Some, None}
-use Rattle.std.specs.declared.result.Result.the-variants.{Ok, Err}
+use Rattle.std.specs.declared.result.Result.the-variants.{Err}
 use Rattle.word.specs.Word.{reading-of}
 use Rattle.entries.specs.declared.list.Entries.{Entries}
 use Rattle.descriptor.specs.Descriptors.{last-number}
@@ -17,8 +17,8 @@ use Rattle.model.specs.declared.table.Refusal.{Refusal}
 use Rattle.model.specs.declared.table.Refusal.the-variants.{UsedUp}
 use Rattle.model.specs.World.{World, core-at}
 use Rattle.model.specs.Calls.{Call, starts, steps, collects, words-of}
-use Rattle.model.specs.Refusals.{Row, first-match, some-of, table-for, refusal-of, is-idle, is-finished, is-making, is-plain, has-right, first-tagged}
-use Rattle.model.specs.Perform.{Performed, perform, unless-refused, granted}
+use Rattle.model.specs.Refusals.{Row, first-match, some-of, refusal-of, is-idle, is-finished, is-making, is-plain, has-right, first-tagged}
+use Rattle.model.specs.Perform.{perform, unless-refused, granted}
 
 -- What is refused and what is granted.
 

@@ -1,13 +1,13 @@
 use mathlib.Core.Path.{_≡_, refl, ap, sym, subst, _∙_}
-use mathlib.Core.Bool.{Bool, true, false, cond}
+use mathlib.Core.Bool.{true}
 use mathlib.Core.List.{List, [], _∷_, _++_}
-use Prim.Native.Nat.{ℕ, _+_, _-_, _*_, _<_, _≤_, _^_}
+use Prim.Native.Nat.{ℕ, _+_, _*_, _<_, _≤_}
 use native.Mathlib.Omega.{arith}
 use lib.ListN.{length, getD, set, replicate}
 use lib.Dec.{ltb}
 use Rattle.std.proofs.shelf.Lists.{getD-set-other, length-set}
 use Rattle.std.proofs.shelf.Tests.{cond-true, lt-ltb}
-use Rattle.std.specs.declared.option.Option.the-variants.{Some, None}
+use Rattle.std.specs.declared.option.Option.the-variants.{Some}
 use Rattle.std.specs.declared.result.Result.the-variants.{Ok, Err}
 use Rattle.word.specs.declared.Word.{Word}
 use Rattle.word.specs.declared.Word.the-variants as word
@@ -19,28 +19,24 @@ use Rattle.entries.specs.Listed.{listed}
 use Rattle.entries.proofs.Law.{listed-lawful}
 use Rattle.descriptor.specs.declared.Descriptor.{Descriptor}
 use Rattle.descriptor.specs.declared.contents.State.the-variants as state
-use Rattle.descriptor.specs.declared.contents.Outcome.{Outcome}
 use Rattle.descriptor.specs.declared.contents.Outcome.the-variants as outcome
 use Rattle.descriptor.specs.declared.contents.Placing.{Placing}
 use Rattle.descriptor.specs.Descriptors.{last-number}
-use Rattle.descriptor.specs.Contents.{state-of}
-use Rattle.model.specs.declared.place.Clearing.the-variants as clearing
-use Rattle.model.specs.declared.place.Place.the-variants.{Begin, Fetch, Make, Try, Decide, Clear}
+use Rattle.model.specs.declared.place.Place.the-variants.{Begin, Fetch, Make, Decide}
 use Rattle.model.specs.declared.table.Core.{Core}
 use Rattle.model.specs.declared.table.Setting.{Setting}
 use Rattle.model.specs.declared.table.Refusal.the-variants.{UsedUp, NoRight}
 use Rattle.model.specs.World.{World}
-use Rattle.model.specs.Rules.{answer-of}
-use Rattle.model.specs.Calls.{starts, steps, collects, opens}
+use Rattle.model.specs.Calls.{starts, steps, collects}
 use Rattle.model.specs.Refusals.{refusal-of, is-plain, is-idle, is-finished, is-making}
 use Rattle.model.specs.Perform.{Performed, perform, opened}
 use Rattle.model.specs.Histories.{answers-of}
-use Rattle.model.specs.Points.{shut, Alone, Matches, after-start, Matching, Differing, Second-make-used-up, Refused-start-takes-no-number}
+use Rattle.model.specs.Points.{shut, Matches, Matching, Differing, Second-make-used-up, Refused-start-takes-no-number}
 use Rattle.model.proofs.Granting.{perform-refused, make-refused}
 use Rattle.model.proofs.LoneRun.{Run, Runs, own-mark, run-length, run-entry, run-work, runner, runner-at, lone}
 use Rattle.model.proofs.LoneSteps.{made-for, placing-mark, fetches, makes-mark, differs}
 use Rattle.model.proofs.LoneWhole.{Works, Ends, Within, none-works, step-works, works-on, works-ends, entry-placed, begun, decided-ends, matched-ends, stored-unplaced}
-use Rattle.model.proofs.LoneStart.{run-of, no-placing, numbers-begin, opened-plain, opened-unplaced, starts-run, starts-within, start-performed}
+use Rattle.model.proofs.LoneStart.{run-of, no-placing, opened-plain, opened-unplaced, starts-run, starts-within, start-performed}
 
 -- The points of runs alone.
 

@@ -1,34 +1,33 @@
-use mathlib.Core.Path.{_≡_, refl, ap, sym, _∙_}
-use mathlib.Core.Bool.{Bool, true, false, cond}
+use mathlib.Core.Path.{_≡_, refl, ap, _∙_}
+use mathlib.Core.Bool.{false}
 use mathlib.Core.List.{List, [], _∷_}
-use Prim.Native.Nat.{ℕ, _<_, _≤_}
+use Prim.Native.Nat.{ℕ, _<_}
 use native.Mathlib.Omega.{arith}
 use lib.ListN.{length, getD}
 use lib.Dec.{leb}
-use Rattle.std.proofs.shelf.Tests.{or-parts, leb-false}
+use Rattle.std.proofs.shelf.Tests.{leb-false}
 use Rattle.std.specs.declared.option.Option.the-variants.{Some, None}
 use Rattle.std.specs.declared.result.Result.the-variants.{Ok, Err}
 use Rattle.word.specs.declared.Word.the-variants as word
-use Rattle.word.specs.Word.{reading-of, raw-of}
+use Rattle.word.specs.Word.{reading-of}
 use Rattle.word.proofs.Readings.{written-back}
 use Rattle.entries.specs.declared.list.Entries.{Entries}
-use Rattle.descriptor.specs.Descriptors.{last-number}
 use Rattle.descriptor.specs.Contents.{undecided}
 use Rattle.model.specs.declared.place.Place.{Place}
-use Rattle.model.specs.declared.place.Place.the-variants.{Idle, Finished, Look}
+use Rattle.model.specs.declared.place.Place.the-variants.{Finished, Look}
 use Rattle.model.specs.declared.place.Own.the-variants as own
 use Rattle.model.specs.declared.table.Core.{Core}
 use Rattle.model.specs.declared.table.Setting.{Setting}
 use Rattle.model.specs.declared.table.Refusal.the-variants.{UsedUp}
 use Rattle.model.specs.World.{World, core-at, with-place}
 use Rattle.model.specs.Rules.{by-sight, after-look}
-use Rattle.model.specs.Step.{step-world, change-world, step-change, step-place, arrive}
-use Rattle.model.specs.Calls.{starts, reads, steps, collects, opens}
-use Rattle.model.specs.Refusals.{refusal-of, table-for, some-of, is-idle, is-finished, is-making}
-use Rattle.model.specs.Perform.{Performed, perform, opened, collected, answer-in}
+use Rattle.model.specs.Step.{arrive}
+use Rattle.model.specs.Calls.{starts, reads, steps, collects}
+use Rattle.model.specs.Refusals.{refusal-of, table-for, is-idle}
+use Rattle.model.specs.Perform.{Performed, perform, opened, collected}
 use Rattle.model.specs.Histories.{answers-of}
 use Rattle.model.specs.Points.{shut, Start-after-read-used-up}
-use Rattle.model.proofs.Granting.{perform-granted, perform-refused, test-fails, fails-at, step-granted, collect-granted, start-refused}
+use Rattle.model.proofs.Granting.{perform-granted, perform-refused, test-fails, fails-at, start-refused}
 use Rattle.model.proofs.LoneRun.{Run, Runs, with-runner, runner-at, runner-changed, step-by, collect-by}
 use Rattle.model.proofs.LoneSteps.{word-there}
 use Rattle.model.proofs.LoneStart.{run-of, no-placing, starts-run, first-started}

@@ -1,50 +1,33 @@
-use mathlib.Core.Path.{_≡_, refl, ap, sym, _∙_}
-use mathlib.Core.Bool.{Bool, true, false, cond, _&&_}
-use mathlib.Core.List.{List, [], _∷_}
-use Prim.Native.Nat.{ℕ, _+_, _<_, _≤_, _^_}
+use mathlib.Core.Path.{_≡_, refl, ap, _∙_}
+use mathlib.Core.Bool.{true, false, cond, _&&_}
+use mathlib.Core.List.{List}
+use Prim.Native.Nat.{ℕ, _<_, _≤_}
 use native.Mathlib.Omega.{arith}
-use lib.ListN.{length, getD, set}
+use lib.ListN.{length, set}
 use lib.Dec.{leb, ltb, eqb}
 use Rattle.std.proofs.shelf.Lists.{getD-set-same, set-set}
-use Rattle.std.proofs.shelf.Tests.{cond-true, cond-false, lt-ltb, eq-eqb, lt-leb, ne-eqb}
-use Rattle.std.specs.declared.option.Option.{Option}
-use Rattle.std.specs.declared.option.Option.the-variants.{Some, None}
-use Rattle.std.specs.declared.result.Result.{Result}
-use Rattle.std.specs.declared.result.Result.the-variants.{Ok, Err}
+use Rattle.std.proofs.shelf.Tests.{cond-true, lt-ltb, eq-eqb}
+use Rattle.std.specs.declared.option.Option.the-variants.{Some}
+use Rattle.std.specs.declared.result.Result.the-variants.{Ok}
 use Rattle.word.specs.declared.Mark.{Mark}
-use Rattle.word.specs.declared.Word.{Word}
-use Rattle.word.specs.declared.Word.the-variants as word
-use Rattle.word.specs.Word.{reading-of, raw-of}
-use Rattle.bank.specs.Bank.{swapped}
 use Rattle.entries.specs.declared.Entry.{Entry}
 use Rattle.entries.specs.declared.list.Entries.{Entries}
 use Rattle.entries.specs.Lists.{entry-at}
 use Rattle.entries.specs.Listed.{listed}
 use Rattle.descriptor.specs.declared.Descriptor.{Descriptor}
-use Rattle.descriptor.specs.declared.Overtaken.{Overtaken}
-use Rattle.descriptor.specs.declared.UsedUp.{UsedUp}
 use Rattle.descriptor.specs.declared.contents.Operation.{Operation}
 use Rattle.descriptor.specs.declared.contents.State.{State}
-use Rattle.descriptor.specs.declared.contents.State.the-variants as state
 use Rattle.descriptor.specs.declared.contents.Outcome.{Outcome}
-use Rattle.descriptor.specs.declared.contents.Outcome.the-variants as outcome
 use Rattle.descriptor.specs.declared.contents.Placing.{Placing}
-use Rattle.descriptor.specs.Descriptors.{last-number, creation, created, changed, reading}
-use Rattle.descriptor.specs.Contents.{count-of, entry-in, decided, state-of, with-outcome}
+use Rattle.descriptor.specs.Descriptors.{last-number, created, changed, reading}
+use Rattle.descriptor.specs.Contents.{decided, with-outcome}
 use Rattle.model.specs.declared.place.Work.{Work}
-use Rattle.model.specs.declared.place.Then.{Then}
-use Rattle.model.specs.declared.place.Then.the-variants as then
-use Rattle.model.specs.declared.place.Clearing.the-variants as clearing
-use Rattle.model.specs.declared.place.Settling.the-variants as settling
 use Rattle.model.specs.declared.place.Place.{Place}
-use Rattle.model.specs.declared.place.Place.the-variants.{Idle, Finished, Look, Begin, Fetch, Make, Try, Decide, Clear, Settle}
-use Rattle.model.specs.declared.place.Own.{Own}
 use Rattle.model.specs.declared.place.Own.the-variants as own
 use Rattle.model.specs.declared.table.Core.{Core}
 use Rattle.model.specs.declared.table.Table.{Table}
-use Rattle.model.specs.World.{World, new-core, core-at, word-at, operation-at, placing-at, with-cores, with-core, with-place, with-operation, with-placing}
-use Rattle.model.specs.Rules.{by-sight, through-mark, home, after-begin, after-try, after-decide, outcome-after, after-clear-load, after-clear-swap, resume, is-undecided}
-use Rattle.model.specs.Step.{Change, makes, decides, swaps, change-world, step-change, step-place, step-world, arrive, after-make, cleared-to}
+use Rattle.model.specs.World.{World, new-core, core-at, operation-at, placing-at, with-cores, with-core, with-place, with-operation, with-placing}
+use Rattle.model.specs.Step.{makes, decides, change-world, step-change, step-place, arrive}
 use Rattle.model.specs.Calls.{steps, collects}
 use Rattle.model.specs.Refusals.{is-idle, is-finished, is-making}
 use Rattle.model.specs.Perform.{perform, collected, answer-in}

@@ -1,16 +1,15 @@
-use mathlib.Core.Path.{_≡_, refl, ap, sym, _∙_}
-use mathlib.Core.Bool.{Bool, true, false, cond, not}
-use mathlib.Core.List.{List, [], _∷_, map}
-use Prim.Native.Nat.{ℕ, _+_, _-_, _<_, _≤_}
+use mathlib.Core.Path.{_≡_, refl, ap, _∙_}
+use mathlib.Core.Bool.{true, false}
+use mathlib.Core.List.{List, map}
+use Prim.Native.Nat.{ℕ, _+_, _-_, _≤_}
 use native.Mathlib.Omega.{arith}
 use lib.ListN.{length, getD, length-map, List·getD-map, getD-replicate}
 use lib.Dec.{ltb, leb}
 use Rattle.std.proofs.shelf.Tests.{cond-true, lt-ltb, leb-false, or-parts, not-false}
 use Rattle.std.proofs.shelf.Ways.{tells}
-use Rattle.std.specs.Options.{isSome}
 use Rattle.std.specs.declared.option.Option.{Option}
 use Rattle.std.specs.declared.option.Option.the-variants.{Some, None}
-use Rattle.std.specs.declared.result.Result.the-variants.{Ok, Err}
+use Rattle.std.specs.declared.result.Result.the-variants.{Ok}
 use Rattle.word.specs.declared.Word.{Word}
 use Rattle.word.specs.declared.Word.the-variants as word
 use Rattle.word.specs.Word.{reading-of}
@@ -29,14 +28,14 @@ use Rattle.model.specs.declared.place.Own.{Own}
 use Rattle.model.specs.declared.place.Own.the-variants as own
 use Rattle.model.specs.declared.table.Core.{Core}
 use Rattle.model.specs.declared.table.Setting.{Setting}
-use Rattle.model.specs.World.{World, new-core, core-at, with-core}
+use Rattle.model.specs.World.{new-core, core-at, with-core}
 use Rattle.model.specs.Rules.{home}
-use Rattle.model.specs.Calls.{starts, reads, opens}
-use Rattle.model.specs.Refusals.{refusal-of, table-for, setting-fits, is-plain, first-tagged}
-use Rattle.model.specs.Perform.{Performed, perform, granted, opened, opened-table, started}
+use Rattle.model.specs.Calls.{starts, opens}
+use Rattle.model.specs.Refusals.{refusal-of, table-for, setting-fits, is-plain}
+use Rattle.model.specs.Perform.{Performed, perform, opened, opened-table, started}
 use Rattle.model.specs.Points.{shut}
 use Rattle.model.proofs.Granting.{perform-granted, test-fails, fails-at, all-plain}
-use Rattle.model.proofs.LoneRun.{Run, Runs, own-mark, run-length, run-entry, with-runner, lone}
+use Rattle.model.proofs.LoneRun.{Run, Runs, own-mark, with-runner, lone}
 use Rattle.model.proofs.LoneSteps.{is-placing}
 use Rattle.model.proofs.LoneWhole.{Within, Unplaced}
 

@@ -1,5 +1,5 @@
 use mathlib.Core.Path.{_≡_, refl, ap, sym, subst, _∙_}
-use mathlib.Core.Bool.{Bool, true, false, cond}
+use mathlib.Core.Bool.{true, false}
 use mathlib.Core.List.{List, [], _∷_, _++_, append-assoc}
 use Prim.Native.Nat.{ℕ, zero, suc, _+_, _-_, _*_, _<_, _≤_, _^_}
 use native.Mathlib.Omega.{arith}
@@ -8,16 +8,13 @@ use lib.Dec.{ltb, eqb}
 use Rattle.std.proofs.shelf.Lists.{getD-set-same, getD-set-other, set-set, length-set}
 use Rattle.std.proofs.shelf.Tests.{cond-true, cond-false, cond-both, lt-ltb, le-ltb}
 use Rattle.std.proofs.shelf.Ways.{tells}
-use Rattle.std.specs.declared.result.Result.{Result}
-use Rattle.std.specs.declared.result.Result.the-variants.{Ok, Err}
-use Rattle.word.specs.declared.Word.{Word}
+use Rattle.std.specs.declared.result.Result.the-variants.{Ok}
 use Rattle.word.specs.declared.Word.the-variants as word
 use Rattle.word.specs.Word.{reading-of, raw-of}
 use Rattle.word.proofs.Readings.{written-back}
 use Rattle.bank.specs.Bank.{swapped}
 use Rattle.bank.proofs.Laws.{swaps-of}
 use Rattle.entries.specs.declared.Entry.{Entry}
-use Rattle.entries.specs.Listed.{listed}
 use Rattle.entries.proofs.Law.{listed-lawful}
 use Rattle.descriptor.specs.declared.Descriptor.{Descriptor}
 use Rattle.descriptor.specs.declared.contents.State.{State}
@@ -32,19 +29,17 @@ use Rattle.model.specs.declared.place.Then.the-variants as then
 use Rattle.model.specs.declared.place.Clearing.the-variants as clearing
 use Rattle.model.specs.declared.place.Settling.the-variants as settling
 use Rattle.model.specs.declared.place.Place.{Place}
-use Rattle.model.specs.declared.place.Place.the-variants.{Idle, Finished, Look, Begin, Fetch, Make, Try, Decide, Clear, Settle}
+use Rattle.model.specs.declared.place.Place.the-variants.{Finished, Begin, Fetch, Decide, Clear, Settle}
 use Rattle.model.specs.declared.place.Own.the-variants as own
-use Rattle.model.specs.declared.table.Core.{Core}
-use Rattle.model.specs.declared.table.Refusal.{Refusal}
 use Rattle.model.specs.World.{World}
 use Rattle.model.specs.Rules.{next-entry, after-clear-swap, answer-of}
 use Rattle.model.specs.Step.{cleared-to}
 use Rattle.model.specs.Calls.{Call, steps, collects}
-use Rattle.model.specs.Refusals.{is-finished, refusal-of}
-use Rattle.model.specs.Perform.{Performed, perform, answer-in}
+use Rattle.model.specs.Refusals.{is-finished}
+use Rattle.model.specs.Perform.{Performed}
 use Rattle.model.specs.Histories.{answers-of}
 use Rattle.model.proofs.LoneRun.{Run, Runs, own-mark, run-length, run-entry, run-work, runner, lone, collect-by}
-use Rattle.model.proofs.LoneSteps.{Working, is-placing, placing-for, made-for, placing-mark, cleared, begins, fetches, makes-mark, places, differs, reads-placing, reads-state, settles, decides-outcome, reads-entry, loads-word, clears}
+use Rattle.model.proofs.LoneSteps.{Working, is-placing, placing-for, made-for, placing-mark, cleared, begins, fetches, makes-mark, places, reads-placing, reads-state, settles, decides-outcome, reads-entry, loads-word, clears}
 
 -- A lone run from its start to its end: the steps of each entry, then all entries by induction.
 

@@ -1,4 +1,4 @@
-use mathlib.Core.Path.{_≡_, refl, ap, sym, _∙_}
+use mathlib.Core.Path.{_≡_, refl, ap}
 use mathlib.Core.Bool.{true, false, cond}
 use mathlib.Core.List.{List, [], _∷_}
 use mathlib.Core.Logic.{⊎-elim}
@@ -7,8 +7,7 @@ use native.Mathlib.Omega.{arith}
 use native.Mathlib.Numerals.{add-one}
 use lib.ListN.{length}
 use Rattle.std.proofs.shelf.Tests.{cases-bool, cases-eq}
-use Rattle.std.proofs.shelf.Ways.{tells}
-use Rattle.std.specs.declared.option.Option.the-variants.{Some, None}
+use Rattle.std.specs.declared.option.Option.the-variants.{Some}
 use Rattle.std.specs.declared.result.Result.the-variants.{Ok, Err}
 use Rattle.word.specs.Word.{reading-of}
 use Rattle.entries.specs.declared.Entry.{Entry}
@@ -16,10 +15,10 @@ use Rattle.entries.specs.Lists.{Lawful, entry-at, lawful}
 use Rattle.entries.specs.Listed.{filling}
 use Rattle.entries.proofs.Law.{decides-lawful}
 use Rattle.model.specs.declared.table.Setting.{Setting}
-use Rattle.model.specs.declared.table.Refusal.the-variants.{Tagged, NoRight}
+use Rattle.model.specs.declared.table.Refusal.the-variants.{Tagged}
 use Rattle.model.specs.Calls.{opens}
 use Rattle.model.specs.Refusals.{refusal-of, setting-fits, first-match, first-tagged}
-use Rattle.model.specs.Perform.{Performed, perform}
+use Rattle.model.specs.Perform.{Performed}
 use Rattle.model.specs.Points.{Raw-words, Lists, shut}
 use Rattle.model.proofs.Granting.{perform-refused}
 

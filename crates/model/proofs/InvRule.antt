@@ -29,7 +29,7 @@ use Rattle.model.specs.declared.place.Place.the-variants.{Fetch, Make, Try, Cl
 use Rattle.model.specs.declared.place.Clearing.the-variants as clearing
 use Rattle.model.specs.declared.place.Settling.the-variants as settling
 use Rattle.model.specs.declared.table.Core.{Core}
-use Rattle.model.specs.World.{World, core-at, with-core}
+use Rattle.model.specs.World.{World, core-at, with-core, with-placing}
 use Rattle.model.specs.Rules.{first-entry}
 use Rattle.model.specs.Step.{cleared-to, settled-to}
 use Rattle.model.specs.Shown.{entries-of}
@@ -77,6 +77,10 @@ settled-writable : (first : ℕ) (w : World) → Ranged first w → (u : Bool) (
 settled-writable first w r true p h = known-made first w r (p .operation) (h .0)
 settled-writable first w r false p h = h .2
 
+-- what Make puts into the placing descriptor
+abbrev contents-for : Work → Entry → Placing
+contents-for t e = record { operation = t .operation; word = e .word; expected = e .expected }
+
 module _ (first : ℕ) (w : World) (k : ℕ) (inv : Inv (view w)) (r : Ranged first w) (lt : k < 8) where
   room : k < length (w .table .cores)
   room = let e = r .eight in omega arith
@@ -117,7 +121,7 @@ module _ (first : ℕ) (w : World) (k : ℕ) (inv : Inv (view w)) (r : Ranged fi
   inv-rule _ (begin-overtaken a c) = homeward _ a refl refl
   inv-rule _ (fetch {t = t} {o = o} {e = e} a c h) = moved _ (subst (λ (x : Entry). Inv (move (view w) k (Make t x))) (fetched (t .operation) o (t .index) e c h) (keeps-fetch (view w) k t inv a))
   inv-rule _ (fetch-overtaken a c) = homeward _ a refl refl
-  inv-rule _ (make {t = t} {e = e} a) = rw (view-goes (creates w k _) k _ (room-in k _), view-creates w k _ room) (keeps-make (view w) k t e inv a)
+  inv-rule _ (make {t = t} {e = e} a) = rw (view-goes (creates w k (contents-for t e)) k (Try t e (record { core = k; number = rel.next-placing w k })) (room-in k (with-placing (core-at w k) (record { last = rel.next-placing w k; contents = contents-for t e }))), view-creates w k (contents-for t e) room) (keeps-make (view w) k t e inv a)
   inv-rule _ (try-placed {t = t} {e = e} {m = m} a s) =
       stored (e .word) (word.Placing m) _ (s .0) (known-placing-made first w r m (rw a at (r .cores k lt .place) .2)) (keeps-try-placed (view w) k t e m inv a (s .1))
   inv-rule _ (try-meets-placing {t = t} {e = e} {m = m} {n = n} a s) = moved _ (keeps-try-placing (view w) k t e m n inv a (s .1))

@@ -18,3 +18,13 @@ pub mod RuleComplete
 pub mod Ranges
 pub mod Views
 pub mod InvRule
+pub mod Granting
+pub mod LateHelper
+pub mod LonePoints
+pub mod LoneRead
+pub mod LoneRun
+pub mod LoneStart
+pub mod LoneSteps
+pub mod LoneWhole
+pub mod PlainPoints
+pub mod Worked

@@ -17,7 +17,6 @@ pub mod RuleExact
 pub mod RuleComplete
 pub mod Ranges
 pub mod Views
-pub mod InvRule
 pub mod Granting
 pub mod LateHelper
 pub mod LonePoints
@@ -29,3 +28,5 @@ pub mod LoneWhole
 pub mod PlainPoints
 pub mod Worked
 pub mod Showing
+pub mod Events
+pub mod RuleKept

@@ -28,3 +28,4 @@ pub mod LoneSteps
 pub mod LoneWhole
 pub mod PlainPoints
 pub mod Worked
+pub mod Timeline

@@ -30,3 +30,4 @@ pub mod Worked
 pub mod Showing
 pub mod Events
 pub mod RuleKept
+pub mod Timeline

@@ -17,3 +17,4 @@ pub mod RuleExact
 pub mod RuleComplete
 pub mod Ranges
 pub mod Views
+pub mod Fitting

@@ -18,3 +18,4 @@ pub mod RuleComplete
 pub mod Ranges
 pub mod Views
 pub mod Fitting
+pub mod InRange

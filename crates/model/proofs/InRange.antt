@@ -13,7 +13,7 @@ use Rattle.std.specs.declared.option.Option.{Option}
 use Rattle.std.specs.declared.option.Option.the-variants.{Some, None}
 use Rattle.std.specs.declared.result.Result.{Result}
 use Rattle.std.specs.declared.result.Result.the-variants.{Ok, Err}
-use Rattle.std.proofs.shelf.Tests.{lt-ltb, ltb-true, cond-true, cond-both, cases-eq, cases-lt, cases-bool}
+use Rattle.std.proofs.shelf.Tests.{lt-ltb, ltb-true, cond-true, cond-both, cases-eq, cases-lt, cases-bool, both-ways}
 use Rattle.std.proofs.shelf.Lists.{getD-replicate, length-replicate, getD-map, getD-default}
 use Rattle.word.specs.declared.Mark.{Mark}
 use Rattle.word.specs.declared.Word.{Word}
@@ -50,10 +50,10 @@ use Rattle.model.specs.World.{World, new-core, core-at, with-words, with-core,
 use Rattle.model.specs.Rules.{home}
 use Rattle.model.specs.Step.{Change, nothing, swaps, decides, makes, step-change, step-place, change-world, after-make, arrive, step-world}
 use Rattle.model.specs.Calls.{Call, starts, reads, steps, collects, halts, shows, raws, opens, core-of, words-of}
-use Rattle.model.specs.Refusals.{refusal-of, is-making, is-plain}
+use Rattle.model.specs.Refusals.{refusal-of, is-making, is-plain, setting-fits}
 use Rattle.model.specs.RefusalLaw.{Holds, Fits, Is-plain}
 use Rattle.model.specs.Perform.{perform, granted, unless-refused, opened, started, collected, halted, closed-table}
-use Rattle.model.specs.Histories.{History, opening-of, world-at, world-of}
+use Rattle.model.specs.Histories.{History, after-calls, opening-of, world-at, world-of}
 use Rattle.model.specs.Shown.{entries-of}
 use Rattle.model.proofs.RefusalTests.{decides-plain, decides-making, decides-fits}
 use Rattle.model.proofs.RefusalTable.{none-holds}
@@ -83,15 +83,17 @@ module _ (first : ℕ) (w : World) (r : Ranged first w) where
   -- Another record for core k, with no fewer numbers taken.
   keeps-put : (k : ℕ) (c : Core) → k < 8 → core-at w k .operation .last ≤ c .operation .last → core-at w k .placing .last ≤ c .placing .last
       → (Grows here (bounds first (with-core w k c)) → Core-fits (bounds first (with-core w k c)) c) → Keeps first w (with-core w k c)
-  keeps-put k c k8 o p fits =
-      (record {
-        running = r .running;
-        few = r .few;
-        eight = length-set (w .table .cores) k c ∙ r .eight;
-        first-number = r .first-number;
-        words = λ i l. word-more here there grows _ (r .words i l);
-        cores = λ j j8. put-both w k c j (Core-fits there) in-table (λ _. fits grows) (λ _. core-more here there grows _ (r .cores j j8));
-      }, grows)
+  keeps-put k c k8 o p fits = (
+    record {
+      running = r .running;
+      few = r .few;
+      eight = length-set (w .table .cores) k c ∙ r .eight;
+      first-number = r .first-number;
+      words = λ i l. word-more here there grows _ (r .words i l);
+      cores = λ j j8. put-both w k c j (Core-fits there) in-table (λ _. fits grows) (λ _. core-more here there grows _ (r .cores j j8));
+    },
+    grows,
+  )
     where
       in-table : k < length (w .table .cores)
       in-table = omega (arith, r .eight)
@@ -126,15 +128,17 @@ module _ (first : ℕ) (w : World) (r : Ranged first w) where
   writable (word.Foreign n) h = h
 
   keeps-store : (i : ℕ) (x : Word) → i < length (w .words) → Word-fits here x → Keeps first w (with-words w (set (w .words) i (raw-of x)))
-  keeps-store i x lt fits =
-      (record {
-        running = r .running;
-        few = r .few;
-        eight = r .eight;
-        first-number = r .first-number;
-        words = λ j l. word-more here there grows _ (each j (rw (length-set (w .words) i (raw-of x)) at l));
-        cores = λ k k8. core-more here there grows _ (r .cores k k8);
-      }, grows)
+  keeps-store i x lt fits = (
+    record {
+      running = r .running;
+      few = r .few;
+      eight = r .eight;
+      first-number = r .first-number;
+      words = λ j l. word-more here there grows _ (each j (rw (length-set (w .words) i (raw-of x)) at l));
+      cores = λ k k8. core-more here there grows _ (r .cores k k8);
+    },
+    grows,
+  )
     where
       there : Bounds
       there = bounds first (with-words w (set (w .words) i (raw-of x)))
@@ -273,3 +277,161 @@ step-ranged first w k r k8 left = ⊎-elim creating others (cases-bool (is-makin
         let kept = change-keeps first w r k (core-at w k .place) q (r .cores k k8 .place) in
         arrive-ranged first _ (kept .0) k _ k8
         (place-more here _ (kept .1) _ (step-fits first w r k (core-at w k .own) (core-at w k .place) q (r .cores k k8 .mine) (r .cores k k8 .place)))
+
+-- A granted start: the core's own operation is in range once it is created.
+
+abbrev starting : Core → Own → Option Entries → Core
+starting c mine l =
+    record { place = home mine; own = mine; halted = c .halted; operation = record { last = c .operation .last + 1; contents = undecided l }; placing = c .placing }
+
+start-ranged : (first : ℕ) (w : World) (k : ℕ) (mine : Own) (l : Option Entries) → Ranged first w → k < 8 → core-at w k .operation .last < last-number
+    → ((j : ℕ) → j < length (entries-of l) → Entry-fits (bounds first w) (entry-at (entries-of l) j))
+    → ((b : Bounds) → Grows (bounds first w) b → core-at w k .operation .last + 1 ≤ b .operations k → Own-fits b mine)
+    → Ranged first (with-core w k (started (core-at w k) mine l))
+start-ranged first w k mine l r k8 left es own-fits =
+    subst (λ (d : Descriptor Operation). Ranged first (with-core w k (record { place = home mine; own = mine; halted = core-at w k .halted; operation = d; placing = core-at w k .placing })))
+    (sym (created-left (core-at w k .operation) (undecided l) left))
+    (keeps-put first w r k c k8 (omega arith) (le-refl _)
+    (λ g. let d = core-more (bounds first w) there g _ (r .cores k k8) in
+    let mine-fits = own-fits there g known in
+    record {
+      place = home-fits there mine mine-fits;
+      mine = mine-fits;
+      started = λ _. d .from-first .0;
+      entries = λ j lt. entry-more (bounds first w) there g _ (es j lt);
+      from-first = (omega (arith, d .from-first .0), d .from-first .1);
+      to-last = (omega arith, d .to-last .1);
+      contents = d .contents;
+      no-contents = d .no-contents;
+    }) .0)
+  where
+    c : Core
+    c = starting (core-at w k) mine l
+
+    there : Bounds
+    there = bounds first (with-core w k c)
+
+    known : core-at w k .operation .last + 1 ≤ there .operations k
+    known = put-both w k c k (λ x. core-at w k .operation .last + 1 ≤ x .operation .last) (omega (arith, r .eight)) (λ _. le-refl _) (λ ne. absurd (ne refl))
+
+-- Every granted call.
+
+module _ (first : ℕ) (w : World) (r : Ranged first w) where
+  -- what a call that no row refuses has to do with
+  core-there : (c : Call) (k : ℕ) → ((q : Refusal) → Holds w c q → ⊥) → core-of c ≡ Some k → k < 8
+  core-there c k none e = ⊎-elim (λ l. l) (λ (ge : 8 ≤ k). absurd (none NoCore (k, e, λ h. omega (arith, h .1)))) (cases-lt k 8)
+
+  word-there : (c : Call) (j : ℕ) → ((q : Refusal) → Holds w c q → ⊥) → j < length (words-of c) → getD (words-of c) j 0 < length (w .words)
+  word-there c j none l =
+      ⊎-elim (λ h. h) (λ (ge : length (w .words) ≤ getD (words-of c) j 0). absurd (none NoWord (j, l, ge))) (cases-lt (getD (words-of c) j 0) (length (w .words)))
+
+  number-left : (n : ℕ) → (last-number ≤ n → ⊥) → n < last-number
+  number-left n h = ⊎-elim (λ l. l) (λ ge. absurd (h ge)) (cases-lt n last-number)
+
+  listed-fit : (k : ℕ) (l : Entries) → ((q : Refusal) → Holds w (starts k l) q → ⊥) → (j : ℕ) → j < length (listed l) → Entry-fits (bounds first w) (entry-at (listed l) j)
+  listed-fit k l none j lt =
+      let h = word-there (starts k l) j none (rw (length-map (listed l) (λ (e : Entry). e .word)) lt) in
+      (rw (getD-map (λ (e : Entry). e .word) (listed l) j zero-entry 0 lt) at h, listed-lawful l .expected-fits j lt, listed-lawful l .new-fits j lt)
+
+  granted-ranged : (c : Call) → ((q : Refusal) → Holds w c q → ⊥) → Ranged first (granted w c .world)
+  granted-ranged (starts k l) none =
+      let k8 = core-there (starts k l) k none refl in
+      start-ranged first w k (own.List (record { core = k; number = core-at w k .operation .last + 1 })) (Some l) r k8 (number-left _ (λ ge. none UsedUp (inl (k, refl, ge)))) (listed-fit k l none)
+      (λ b g known. (k8, omega (arith, r .cores k k8 .from-first .0, g .same-first), known))
+  granted-ranged (reads k i) none =
+      let lt = word-there (reads k i) 0 none (omega arith) in
+      start-ranged first w k (own.Read i) None r (core-there (reads k i) k none refl) (number-left _ (λ ge. none UsedUp (inl (k, refl, ge)))) (λ j l. absurd (omega arith))
+      (λ b g known. omega (arith, g .same-size))
+  granted-ranged (steps k) none =
+      step-ranged first w k r (core-there (steps k) k none refl)
+      (λ q. number-left _ (λ ge. none UsedUp (inr (k, refl, (decides-making (core-at w k .place) .0 q, ge)))))
+  granted-ranged (collects k) none =
+      let k8 = core-there (collects k) k none refl in
+      let c = r .cores k k8 in
+      keeps-core first w r k _ k8 refl refl
+      (record { place = tt; mine = tt; started = λ ne. absurd (ne refl); entries = c .entries; from-first = c .from-first; to-last = c .to-last; contents = c .contents; no-contents = c .no-contents }) .0
+  granted-ranged (halts k) none =
+      let k8 = core-there (halts k) k none refl in
+      let c = r .cores k k8 in
+      keeps-core first w r k _ k8 refl refl
+      (record { place = c .place; mine = c .mine; started = c .started; entries = c .entries; from-first = c .from-first; to-last = c .to-last; contents = c .contents; no-contents = c .no-contents }) .0
+  granted-ranged (shows i) none = r
+  granted-ranged (raws i) none = r
+  granted-ranged (opens s) none = absurd (none Open (r .running, (s, refl)))
+
+-- A call keeps a world in range: a refused one leaves it as it is.
+pub ranged-call : (first : ℕ) (w : World) (c : Call) → Ranged first w → Ranged first (perform w c .world)
+unfolding perform
+ranged-call first w c r = by (refusal-of w c) refl
+  where
+    by : (o : Option Refusal) → refusal-of w c ≡ o → Ranged first (unless-refused o w c .world)
+    by (Some q) e = r
+    by None e = granted-ranged first w r c (none-holds w c e)
+
+-- The opened world: every word is plain, and no core has created anything.
+
+-- where no word is the first that is not plain, all are plain
+all-plain : (w : World) (s : Setting) → ((q : Refusal) → Holds w (opens s) q → ⊥) → (t : ℕ) → (j : ℕ) → j < t → j < length (w .words) → Is-plain (getD (w .words) j 0)
+all-plain w s none zero j l lt = absurd (omega arith)
+all-plain w s none (suc t) j l lt = ⊎-elim (λ e. latest e (all-plain w s none t)) (λ (ne : j ≡ t → ⊥). all-plain w s none t j (omega arith) lt) (cases-eq j t)
+  where
+    n : ℕ
+    n = getD (w .words) j 0
+
+    latest : j ≡ t → ((i : ℕ) → i < t → i < length (w .words) → Is-plain (getD (w .words) i 0)) → Is-plain n
+    latest e before =
+        ⊎-elim (λ p. decides-plain n .0 p)
+        (λ (p : is-plain (reading-of n) ≡ false). absurd (none (Tagged j) ((s, refl), lt, (λ q. both-ways _ p (decides-plain n .1 q)), λ i li. before i (omega arith) (omega arith))))
+        (cases-bool (is-plain (reading-of n)))
+
+plain-fits : (b : Bounds) (n : ℕ) → Is-plain n → Word-fits b (reading-of n)
+plain-fits b n (v, e) = let s : Says n (word.Plain v) = read-says n (word.Plain v) (sym e) in rw e (s .0)
+
+new-fits : (b : Bounds) → 1 ≤ b .first → b .first ≤ last-number → Core-fits b (new-core (b .first))
+new-fits b lo hi = record {
+  place = tt;
+  mine = tt;
+  started = λ ne. absurd (ne refl);
+  entries = λ j l. absurd (omega arith);
+  from-first = (omega arith, omega arith);
+  to-last = (omega arith, omega arith);
+  contents = λ l. absurd (omega arith);
+  no-contents = λ _. refl;
+}
+
+pub ranged-opening : (h : History) → Ranged (h .setting .first) (opening-of h)
+ranged-opening h = record {
+  running = refl;
+  few = fits .few-cores;
+  eight = length-replicate 8 (new-core (h .setting .first));
+  first-number = (fits .number-from, fits .number-to);
+  words = λ i l. plain-fits (bounds (h .setting .first) (opening-of h)) _ (all-plain w (h .setting) none (i + 1) i (omega arith) l);
+  cores = λ k k8. rw (getD-replicate 8 k (new-core (h .setting .first)) (new-core 0) k8) (new-fits (bounds (h .setting .first) (opening-of h)) (fits .number-from) (fits .number-to));
+}
+  where
+    w : World
+    w = record { words = h .words; table = closed-table }
+
+    none : (q : Refusal) → Holds w (opens (h .setting)) q → ⊥
+    none = none-holds w (opens (h .setting)) (h .granted)
+
+    fits : Fits (length (h .words)) (h .setting)
+    fits =
+        ⊎-elim (λ p. decides-fits (length (h .words)) (h .setting) .0 p)
+        (λ p. absurd (none Bad-setting (h .setting, refl, λ f. both-ways _ p (decides-fits (length (h .words)) (h .setting) .1 f))))
+        (cases-bool (setting-fits (length (h .words)) (h .setting)))
+
+-- From one moment to the next there is a call, or nothing more.
+pub moment-next : (h : History) (t : ℕ) (R : World → World → Type 0) → ((w : World) → R w w) → ((c : Call) → R (world-at h t) (perform (world-at h t) c .world)) → R (world-at h t) (world-at h (t + 1))
+moment-next h t R stay call =
+    ⊎-elim (λ l. subst (R (world-at h t)) (sym (world-next h t l)) (call _))
+    (λ (l : length (h .calls) ≤ t). subst (R (world-at h t)) (world-past h t l ∙ sym (world-past h (t + 1) (omega arith))) (stay (world-at h t)))
+    (cases-lt t (length (h .calls)))
+
+-- Every world of every history.
+pub ranged : (h : History) (t : ℕ) → Ranged (h .setting .first) (world-at h t)
+unfolding after-calls
+ranged h zero = ranged-opening h
+ranged h (suc t) =
+    subst (λ (n : ℕ). Ranged (h .setting .first) (world-at h n)) (add-one t)
+    (moment-next h t (λ w v. Ranged (h .setting .first) w → Ranged (h .setting .first) v) (λ _ r. r) (λ c. ranged-call (h .setting .first) (world-at h t) c) (ranged h t))

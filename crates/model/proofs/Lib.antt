@@ -31,3 +31,5 @@ pub mod Showing
 pub mod Events
 pub mod RuleKept
 pub mod Timeline
+pub mod Fitting
+pub mod InRange

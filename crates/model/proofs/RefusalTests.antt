@@ -132,7 +132,7 @@ decides-plain-word (word.Placing m) = (λ e. grind arith, λ h. let q = h .1 in 
 decides-plain-word (word.Operation m) = (λ e. grind arith, λ h. let q = h .1 in grind arith)
 decides-plain-word (word.Foreign n) = (λ e. grind arith, λ h. let q = h .1 in grind arith)
 
-decides-plain : (n : ℕ) → Decides (is-plain (reading-of n)) (Is-plain n)
+pub decides-plain : (n : ℕ) → Decides (is-plain (reading-of n)) (Is-plain n)
 decides-plain n = decides-plain-word (reading-of n)
 
 -- word j is the first that is not plain

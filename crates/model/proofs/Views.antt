@@ -27,7 +27,7 @@ stored-at g l i a d lt j =
     upd-both (λ x. g (getD l x d)) i j (g a) (λ y. g (getD (set l i a) j d) ≡ y) (λ q. ap g (rw q (getD-set-same l i a d lt))) (λ ne. ap g (getD-set-other l i j a d ne))
 
 -- a change to what is there already is none
-upd-self : {A : Type 0} (f : ℕ → A) (i : ℕ) (a : A) → a ≡ f i → upd f i a ≡ f
+pub upd-self : {A : Type 0} (f : ℕ → A) (i : ℕ) (a : A) → a ≡ f i → upd f i a ≡ f
 upd-self f i a e = fun-ext (λ j. upd-both f i j a (λ y. y ≡ f j) (λ q. e ∙ ap f (sym q)) (λ _. refl))
 
 -- every core's record, with core k's replaced

@@ -19,3 +19,5 @@ pub mod Ranges
 pub mod Views
 pub mod Fitting
 pub mod InRange
+pub mod Creations
+pub mod MarkPromises

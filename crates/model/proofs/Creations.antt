@@ -1,36 +1,34 @@
 use mathlib.Core.Path.{_≡_, refl, sym, ap, _∙_, subst}
 use mathlib.Core.List.{List}
 use mathlib.Core.Logic.{_⊎_, inl, inr, ⊎-elim}
-use mathlib.Core.Bool.{Bool, true, false, cond}
-use Prim.Native.Nat.{ℕ, zero, suc, _+_, _-_, _<_, _≤_}
+use mathlib.Core.Bool.{Bool, true, false}
+use Prim.Native.Nat.{ℕ, _+_, _<_, _≤_}
 use native.Mathlib.Omega.{arith}
-use lib.ListN.{length, getD, set}
+use lib.ListN.{length, getD}
 use lib.Seq.{getD-set-same, getD-set-other}
 use lib.Dec.{ltb}
 use Rattle.std.specs.declared.option.Option.{Option}
 use Rattle.std.specs.declared.option.Option.the-variants.{Some, None}
 use Rattle.std.proofs.shelf.Tests.{cond-both, cases-eq, cases-lt}
 use Rattle.std.proofs.shelf.Lists.{getD-replicate, set-past}
-use Rattle.word.specs.declared.Mark.{Mark}
 use Rattle.entries.specs.declared.list.Entries.{Entries}
 use Rattle.descriptor.specs.declared.Descriptor.{Descriptor}
 use Rattle.descriptor.specs.declared.contents.Operation.{Operation}
 use Rattle.descriptor.specs.declared.contents.Placing.{Placing}
 use Rattle.descriptor.specs.Descriptors.{last-number}
-use Rattle.model.specs.declared.place.Place.{Place}
 use Rattle.model.specs.declared.place.Own.{Own}
 use Rattle.model.specs.declared.place.Own.the-variants as own
 use Rattle.model.specs.declared.table.Core.{Core}
 use Rattle.model.specs.declared.table.Refusal.{Refusal}
 use Rattle.model.specs.declared.table.Refusal.the-variants.{Open}
-use Rattle.model.specs.World.{World, new-core, core-at, with-core, with-place, with-placing}
+use Rattle.model.specs.World.{World, new-core, core-at, with-core, with-placing}
 use Rattle.model.specs.Rules.{home}
-use Rattle.model.specs.Step.{Change, nothing, swaps, decides, makes, step-change, step-place, change-world, arrive, step-world}
+use Rattle.model.specs.Step.{Change, nothing, swaps, decides, makes, step-change, change-world, step-world}
 use Rattle.model.specs.Calls.{Call, starts, reads, steps, collects, halts, shows, raws, opens}
 use Rattle.model.specs.Refusals.{refusal-of}
 use Rattle.model.specs.RefusalLaw.{Holds}
 use Rattle.model.specs.Perform.{perform, granted, unless-refused, started}
-use Rattle.model.specs.Histories.{History, after-calls, opening-of, world-at}
+use Rattle.model.specs.Histories.{History, opening-of, world-at}
 use Rattle.model.specs.Marks.{Marked, placing, operation, mark-of, last-of, Same-descriptor, placings, operations}
 use Rattle.model.proofs.RefusalTable.{none-holds}
 use Rattle.model.proofs.Rising.{Rises}

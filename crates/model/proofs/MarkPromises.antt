@@ -1,15 +1,13 @@
-use mathlib.Core.Path.{_≡_, refl, sym, ap, _∙_, subst}
+use mathlib.Core.Path.{_≡_, refl, ap, subst}
 use mathlib.Core.List.{List, [], _∷_, _++_}
-use mathlib.Core.Logic.{_⊎_, inl, inr, ⊎-elim}
+use mathlib.Core.Logic.{⊎-elim}
 use Prim.Native.Nat.{ℕ, zero, suc, _+_, _<_, _≤_}
 use native.Mathlib.Omega.{arith}
 use native.Mathlib.Nat.{le-refl}
 use lib.ListN.{length, getD}
 use Rattle.std.specs.shelf.Lists.{All}
 use Rattle.std.specs.declared.result.Result.the-variants.{Ok, Err}
-use Rattle.std.proofs.shelf.Tests.{eq-eqb, cond-true, cases-lt, cases-eq}
-use Rattle.word.specs.declared.Mark.{Mark}
-use Rattle.word.specs.declared.Word.{Word}
+use Rattle.std.proofs.shelf.Tests.{eq-eqb, cond-true, cases-lt}
 use Rattle.descriptor.specs.declared.Descriptor.{Descriptor}
 use Rattle.descriptor.specs.Descriptors.{reading}
 use Rattle.descriptor.proofs.Laws.{laws}
@@ -20,10 +18,10 @@ use Rattle.model.specs.declared.place.Settling.the-variants as settling
 use Rattle.model.specs.declared.place.Place.{Place}
 use Rattle.model.specs.declared.place.Place.the-variants.{Idle, Finished, Look, Begin, Fetch, Make, Try, Decide, Clear, Settle}
 use Rattle.model.specs.World.{World, core-at}
-use Rattle.model.specs.Histories.{History, after-calls, opening-of, world-at}
+use Rattle.model.specs.Histories.{History, after-calls, world-at}
 use Rattle.model.specs.Marks.{Marked, placing, operation, mark-of, as-word, marks-in-then, marks-in-settling, marks-in, Found, in-word, in-place, own-operation, in-descriptor, last-of, Creates, Same-descriptor, placings, operations, Overtaken-at, Answers-overtaken, Alters-nothing}
 use Rattle.model.specs.Promises.{Marks-tell-creations-apart, Overtaken-is-told-exactly}
-use Rattle.model.proofs.Ranges.{Bounds, bounds, Known-operation, Known-placing, Word-fits, Then-fits, Settling-fits, Place-fits, Core-fits, Ranged}
+use Rattle.model.proofs.Ranges.{Bounds, bounds, Known-operation, Known-placing, Word-fits, Then-fits, Settling-fits, Place-fits, Ranged}
 use Rattle.model.proofs.Go.{mark-eq}
 use Rattle.model.proofs.Rising.{Reaches, rises-mono, reached, reached-once}
 use Rattle.model.proofs.InRange.{ranged}

@@ -1,6 +1,7 @@
 //! The machine on paper: the plain types of the core table, and in specs/ the definition of every call.
 ghost use Rattle.model.specs.RefusalLaw.{Refusal-law};
 ghost use Rattle.model.specs.Relation.{Relation-law};
+ghost use Rattle.model.specs.Worked.{Worked-points};
 
 pub mod place;
 pub mod table;
@@ -13,4 +14,9 @@ pub fn refusals_stand()
 /// A granted step is what the rule that applies says, and a rule applies unless the core is stuck; its place is to be in range.
 pub fn relation_stands()
     ensures { λ _. ⌜ Relation-law ⌝ }
+{}
+
+/// The worked points: what the definitions come to in cases that can be told by hand.
+pub fn points_stand()
+    ensures { λ _. ⌜ Worked-points ⌝ }
 {}

@@ -1,19 +1,17 @@
-use mathlib.Core.Path.{_≡_, refl, sym, ap, _∙_, subst}
+use mathlib.Core.Path.{_≡_}
 use mathlib.Core.List.{List}
-use mathlib.Core.Bool.{Bool, true, false, cond}
-use Prim.Native.Nat.{ℕ, _+_, _^_, _<_, _≤_}
+use mathlib.Core.Bool.{Bool, true, false}
+use Prim.Native.Nat.{ℕ, _<_, _≤_}
 use native.Mathlib.Omega.{arith}
-use lib.ListN.{length, getD}
+use lib.ListN.{length}
 use lib.Dec.{eqb, ltb}
 use Rattle.std.specs.declared.option.Option.{Option}
 use Rattle.std.specs.declared.option.Option.the-variants.{Some, None}
 use Rattle.std.specs.declared.result.Result.{Result}
-use Rattle.std.specs.declared.result.Result.the-variants.{Ok, Err}
-use Rattle.std.proofs.shelf.Tests.{ltb-true, eqb-true, cond-both}
+use Rattle.std.proofs.shelf.Tests.{ltb-true, cond-both}
 use Rattle.word.specs.declared.Mark.{Mark}
 use Rattle.word.specs.declared.Word.{Word}
 use Rattle.word.specs.declared.Word.the-variants as word
-use Rattle.word.specs.Word.{reading-of, Writable}
 use Rattle.entries.specs.declared.Entry.{Entry}
 use Rattle.entries.specs.declared.list.Entries.{Entries}
 use Rattle.entries.specs.Lists.{entry-at}
@@ -25,7 +23,6 @@ use Rattle.descriptor.specs.declared.contents.State.the-variants as state
 use Rattle.descriptor.specs.declared.contents.Outcome.{Outcome}
 use Rattle.descriptor.specs.declared.contents.Outcome.the-variants as outcome
 use Rattle.descriptor.specs.declared.contents.Placing.{Placing}
-use Rattle.descriptor.specs.Descriptors.{last-number, reading}
 use Rattle.descriptor.specs.Contents.{entry-in}
 use Rattle.model.specs.declared.place.Work.{Work}
 use Rattle.model.specs.declared.place.Then.{Then}

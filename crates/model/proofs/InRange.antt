@@ -1,20 +1,20 @@
 use mathlib.Core.Path.{_≡_, refl, sym, ap, _∙_, subst}
-use mathlib.Core.List.{List, map}
-use mathlib.Core.Logic.{_⊎_, inl, inr, ⊎-elim}
-use mathlib.Core.Bool.{Bool, true, false, cond}
-use Prim.Native.Nat.{ℕ, zero, suc, _+_, _-_, _^_, _<_, _≤_}
+use mathlib.Core.List.{List}
+use mathlib.Core.Logic.{inl, inr, ⊎-elim}
+use mathlib.Core.Bool.{true, false}
+use Prim.Native.Nat.{ℕ, zero, suc, _+_, _<_, _≤_}
 use native.Mathlib.Omega.{arith}
 use native.Mathlib.Nat.{le-refl}
 use native.Mathlib.Numerals.{add-one}
-use lib.ListN.{length, getD, set, replicate, length-set, length-map}
+use lib.ListN.{length, getD, set, length-set, length-map}
 use lib.Seq.{getD-set-same, getD-set-other}
 use lib.Dec.{eqb, ltb}
 use Rattle.std.specs.declared.option.Option.{Option}
 use Rattle.std.specs.declared.option.Option.the-variants.{Some, None}
 use Rattle.std.specs.declared.result.Result.{Result}
-use Rattle.std.specs.declared.result.Result.the-variants.{Ok, Err}
+use Rattle.std.specs.declared.result.Result.the-variants.{Ok}
 use Rattle.std.proofs.shelf.Tests.{lt-ltb, ltb-true, cond-true, cond-both, cases-eq, cases-lt, cases-bool, both-ways}
-use Rattle.std.proofs.shelf.Lists.{getD-replicate, length-replicate, getD-map, getD-default}
+use Rattle.std.proofs.shelf.Lists.{getD-replicate, length-replicate, getD-map}
 use Rattle.word.specs.declared.Mark.{Mark}
 use Rattle.word.specs.declared.Word.{Word}
 use Rattle.word.specs.declared.Word.the-variants as word
@@ -31,12 +31,11 @@ use Rattle.descriptor.specs.declared.UsedUp.{UsedUp as Used}
 use Rattle.descriptor.specs.declared.contents.Operation.{Operation}
 use Rattle.descriptor.specs.declared.contents.Outcome.{Outcome}
 use Rattle.descriptor.specs.declared.contents.Placing.{Placing}
-use Rattle.descriptor.specs.Descriptors.{last-number, created, creation, changed}
-use Rattle.descriptor.specs.Contents.{undecided, with-outcome}
+use Rattle.descriptor.specs.Descriptors.{last-number, created}
+use Rattle.descriptor.specs.Contents.{undecided}
+use Rattle.descriptor.proofs.Laws.{laws}
 use Rattle.model.specs.declared.place.Work.{Work}
-use Rattle.model.specs.declared.place.Clearing.{Clearing}
 use Rattle.model.specs.declared.place.Clearing.the-variants as clearing
-use Rattle.model.specs.declared.place.Settling.{Settling}
 use Rattle.model.specs.declared.place.Settling.the-variants as settling
 use Rattle.model.specs.declared.place.Place.{Place}
 use Rattle.model.specs.declared.place.Place.the-variants.{Idle, Finished, Look, Begin, Fetch, Make, Try, Decide, Clear, Settle}
@@ -45,33 +44,33 @@ use Rattle.model.specs.declared.place.Own.the-variants as own
 use Rattle.model.specs.declared.table.Core.{Core}
 use Rattle.model.specs.declared.table.Setting.{Setting}
 use Rattle.model.specs.declared.table.Refusal.{Refusal}
-use Rattle.model.specs.declared.table.Refusal.the-variants.{Closed, Open, Setting as Bad-setting, Tagged, NoCore, Halted, Busy, AtRest, List as Bad-list, NoWord, NoRight, UsedUp, NoAnswer, File}
-use Rattle.model.specs.World.{World, new-core, core-at, with-words, with-core, with-place, with-operation, with-placing}
+use Rattle.model.specs.declared.table.Refusal.the-variants.{Open, Setting as Bad-setting, Tagged, NoCore, NoWord, UsedUp}
+use Rattle.model.specs.World.{World, new-core, core-at, with-words, with-core, with-placing}
 use Rattle.model.specs.Rules.{home}
-use Rattle.model.specs.Step.{Change, nothing, swaps, decides, makes, step-change, step-place, change-world, after-make, arrive, step-world}
+use Rattle.model.specs.Step.{decides, step-change, step-place, change-world, after-make, arrive, step-world}
 use Rattle.model.specs.Calls.{Call, starts, reads, steps, collects, halts, shows, raws, opens, core-of, words-of}
 use Rattle.model.specs.Refusals.{refusal-of, is-making, is-plain, setting-fits}
 use Rattle.model.specs.RefusalLaw.{Holds, Fits, Is-plain}
-use Rattle.model.specs.Perform.{perform, granted, unless-refused, opened, started, collected, halted, closed-table}
-use Rattle.model.specs.Histories.{History, after-calls, opening-of, world-at, world-of}
+use Rattle.model.specs.Perform.{perform, granted, unless-refused, started, halted, closed-table}
+use Rattle.model.specs.Histories.{History, after-calls, opening-of, world-at}
 use Rattle.model.specs.Shown.{entries-of}
 use Rattle.model.proofs.RefusalTests.{decides-plain, decides-making, decides-fits}
 use Rattle.model.proofs.RefusalTable.{none-holds}
 use Rattle.model.proofs.Moments.{world-next, world-past}
-use Rattle.model.proofs.Ranges.{Bounds, bounds, Known-operation, Known-placing, Entry-fits, Placing-fits, Word-fits, Place-fits, Own-fits, Core-fits, Ranged}
-use Rattle.model.proofs.Fitting.{Grows, operation-more, entry-more, contents-more, word-more, place-more, own-more, core-more, home-fits, cleared-fits, settled-fits, step-fits}
+use Rattle.model.proofs.Ranges.{Bounds, bounds, Entry-fits, Placing-fits, Word-fits, Place-fits, Own-fits, Core-fits, Ranged}
+use Rattle.model.proofs.Fitting.{Grows, operation-more, entry-more, contents-more, word-more, place-more, core-more, home-fits, cleared-fits, settled-fits, step-fits}
 
 -- Every world of every history is in range.
 
 -- a world in range, with no fewer numbers taken than in another
-abbrev pub Keeps : ℕ → World → World → Type 0
+abbrev Keeps : ℕ → World → World → Type 0
 Keeps first w v = Ranged first v × Grows (bounds first w) (bounds first v)
 
 grows-self : (b : Bounds) → Grows b b
 grows-self b = record { same-first = refl; same-size = refl; operations-rise = λ k. le-refl _; placings-rise = λ k. le-refl _ }
 
 -- what core j keeps once core k's record is another
-pub put-both : (w : World) (k : ℕ) (c : Core) (j : ℕ) (P : Core → Type 0) → k < length (w .table .cores) → (j ≡ k → P c) → ((j ≡ k → ⊥) → P (core-at w j)) → P (core-at (with-core w k c) j)
+put-both : (w : World) (k : ℕ) (c : Core) (j : ℕ) (P : Core → Type 0) → k < length (w .table .cores) → (j ≡ k → P c) → ((j ≡ k → ⊥) → P (core-at w j)) → P (core-at (with-core w k c) j)
 put-both w k c j P l here there =
     ⊎-elim (λ (e : j ≡ k). subst P (sym (ap (λ (x : ℕ). core-at (with-core w k c) x) e ∙ getD-set-same (w .table .cores) k c (new-core 0) l)) (here e))
     (λ (ne : j ≡ k → ⊥). subst P (sym (getD-set-other (w .table .cores) k j c (new-core 0) ne)) (there ne)) (cases-eq j k)
@@ -220,17 +219,14 @@ module _ (first : ℕ) (w : World) (r : Ranged first w) where
 
 -- A granted step.
 
-pub creation-left : {X : Type 0} (d : Descriptor X) → d .last < last-number → creation d ≡ Ok (d .last + 1)
-creation-left d l = cond-true _ _ _ (lt-ltb (d .last) last-number l)
-
-pub created-left : {X : Type 0} (d : Descriptor X) (x : X) → d .last < last-number → created d x ≡ record { last = d .last + 1; contents = x }
+created-left : {X : Type 0} (d : Descriptor X) (x : X) → d .last < last-number → created d x ≡ record { last = d .last + 1; contents = x }
 created-left d x l = cond-true _ _ _ (lt-ltb (d .last) last-number l)
 
 -- a step that creates a placing
 making-ranged : (first : ℕ) (w : World) (k : ℕ) (t : Work) (e : Entry) → Ranged first w → k < 8 → core-at w k .placing .last < last-number → Place-fits (bounds first w) (Make t e)
     → Ranged first (arrive (change-world w k (step-change (Make t e))) k (step-place w k (core-at w k .own) (Make t e)))
 making-ranged first w k t e r k8 left h =
-    subst (λ (a : Result ℕ Used). Ranged first (arrive (change-world w k (step-change (Make t e))) k (after-make k t e a))) (sym (creation-left d left))
+    subst (λ (a : Result ℕ Used). Ranged first (arrive (change-world w k (step-change (Make t e))) k (after-make k t e a))) (sym (laws .numbers-left d left))
     (subst (λ (x : Descriptor Placing). Ranged first (arrive (with-core w k (with-placing (core-at w k) x)) k (Try t e m))) (sym (created-left d p left))
     (arrive-ranged first v (kept .0) k (Try t e m) k8 (operation-more here there (kept .1) (t .operation) (h .0), entry-more here there (kept .1) e (h .1), (k8, r .cores k k8 .from-first .1, known))))
   where

@@ -35,3 +35,5 @@ pub mod Fitting
 pub mod InRange
 pub mod CallKept
 pub mod Happened
+pub mod Creations
+pub mod MarkPromises

@@ -33,3 +33,4 @@ pub mod RuleKept
 pub mod Timeline
 pub mod Fitting
 pub mod InRange
+pub mod Unstuck

@@ -34,3 +34,4 @@ pub mod Timeline
 pub mod Fitting
 pub mod InRange
 pub mod Unstuck
+pub mod ShownIs

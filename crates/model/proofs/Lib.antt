@@ -37,3 +37,5 @@ pub mod CallKept
 pub mod Happened
 pub mod Creations
 pub mod MarkPromises
+pub mod Unstuck
+pub mod ShownIs

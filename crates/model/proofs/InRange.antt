@@ -219,7 +219,7 @@ module _ (first : ℕ) (w : World) (r : Ranged first w) where
 
 -- A granted step.
 
-created-left : {X : Type 0} (d : Descriptor X) (x : X) → d .last < last-number → created d x ≡ record { last = d .last + 1; contents = x }
+pub created-left : {X : Type 0} (d : Descriptor X) (x : X) → d .last < last-number → created d x ≡ record { last = d .last + 1; contents = x }
 created-left d x l = cond-true _ _ _ (lt-ltb (d .last) last-number l)
 
 -- a step that creates a placing

@@ -40,3 +40,4 @@ pub mod MarkPromises
 pub mod Unstuck
 pub mod ShownIs
 pub mod EveryWorld
+pub mod Ledger

@@ -41,3 +41,4 @@ pub mod Unstuck
 pub mod ShownIs
 pub mod EveryWorld
 pub mod Ledger
+pub mod Running

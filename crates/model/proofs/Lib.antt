@@ -39,3 +39,4 @@ pub mod Creations
 pub mod MarkPromises
 pub mod Unstuck
 pub mod ShownIs
+pub mod Answered

@@ -100,7 +100,7 @@ module _ (w : World) (k : ℕ) (c : Core) where
   there l = getD-set-same (w .table .cores) k c (new-core 0) l
 
   -- what holds of core j's own record, and of the new one if it is core k's, holds after
-  put-any : (j : ℕ) (P : Core → Type 0) → (j ≡ k → P c) → P (core-at w j) → P (core-at (with-core w k c) j)
+  pub put-any : (j : ℕ) (P : Core → Type 0) → (j ≡ k → P c) → P (core-at w j) → P (core-at (with-core w k c) j)
   put-any j P new old =
       ⊎-elim (λ (e : j ≡ k). ⊎-elim
       (λ (l : k < length (w .table .cores)). subst P (sym (ap (λ (x : ℕ). core-at (with-core w k c) x) e ∙ there l)) (new e))

@@ -42,3 +42,4 @@ pub mod ShownIs
 pub mod EveryWorld
 pub mod Ledger
 pub mod Running
+pub mod Answered

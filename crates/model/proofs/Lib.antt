@@ -43,3 +43,4 @@ pub mod EveryWorld
 pub mod Ledger
 pub mod Running
 pub mod Answered
+pub mod Ordered

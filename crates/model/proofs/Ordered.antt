@@ -1,0 +1,322 @@
+use mathlib.Core.Path.{_≡_, refl, sym, ap, _∙_, subst, fun-ext}
+use mathlib.Core.List.{List, []}
+use mathlib.Core.Logic.{_⊎_, inl, inr, ⊎-elim}
+use mathlib.Core.Bool.{Bool, true, false, cond}
+use Prim.Native.Nat.{ℕ, zero, suc, _+_, _<_, _≤_}
+use native.Mathlib.Omega.{arith}
+use native.Mathlib.Nat.{le-refl}
+use lib.ListN.{length}
+use Rattle.std.specs.declared.option.Option.{Option}
+use Rattle.std.specs.declared.option.Option.the-variants.{Some, None}
+use Rattle.std.specs.declared.result.Result.{Result}
+use Rattle.std.specs.declared.result.Result.the-variants.{Ok, Err}
+use Rattle.std.proofs.shelf.Tests.{cases-lt, cases-eq, cases-bool, both-ways, true≢false, false≢true}
+use Rattle.word.specs.declared.Mark.{Mark}
+use Rattle.word.specs.declared.Word.{Word}
+use Rattle.word.specs.declared.Word.the-variants as word
+use Rattle.entries.specs.declared.Entry.{Entry}
+use Rattle.entries.specs.declared.list.Entries.{Entries}
+use Rattle.entries.specs.Lists.{entry-at}
+use Rattle.entries.specs.Listed.{listed}
+use Rattle.descriptor.specs.declared.contents.State.{State}
+use Rattle.descriptor.specs.declared.contents.State.the-variants as state
+use Rattle.descriptor.specs.declared.contents.Outcome.{Outcome}
+use Rattle.descriptor.specs.declared.contents.Outcome.the-variants as outcome
+use Rattle.descriptor.specs.Contents.{state-of}
+use Rattle.model.specs.declared.place.Work.{Work}
+use Rattle.model.specs.declared.place.Clearing.the-variants as clearing
+use Rattle.model.specs.declared.place.Place.{Place}
+use Rattle.model.specs.declared.place.Place.the-variants.{Idle, Finished, Look, Begin, Decide, Clear}
+use Rattle.model.specs.declared.place.Own.{Own}
+use Rattle.model.specs.declared.place.Own.the-variants as own
+use Rattle.model.specs.declared.table.Refusal.{Refusal}
+use Rattle.model.specs.World.{World, core-at}
+use Rattle.model.specs.Rules.{answer-of, first-entry}
+use Rattle.model.specs.Shown.{value-among}
+use Rattle.model.specs.Calls.{Call, starts, reads, steps, collects}
+use Rattle.model.specs.Refusals.{refusal-of, is-idle, is-finished}
+use Rattle.model.specs.Perform.{perform}
+use Rattle.model.specs.Histories.{History, world-at, Called}
+use Rattle.model.specs.Plain.{Deed, Whole, swap-all, look-at, Done, succeeds, fails as fails-at, sees}
+use Rattle.model.specs.Promises.{Starts, list, word as read-of, Finishes, Decided, Answers, decided, finished}
+use Rattle.model.proofs.Memory.{Memory, view, entry, upd, move, settled, fresh-op, disown}
+use Rattle.model.proofs.Facts.{Current, Undecided, Place-ok, Own-ok, Word-ok, Inv}
+use Rattle.model.proofs.Updates.{upd-same, upd-at, upd-other, upd-both, upd-is}
+use Rattle.model.proofs.Stable.{not-undecided}
+use Rattle.model.proofs.Showing.{shown-in, shown-of, shown-says, shown-failed, all-expected, new-stored}
+use Rattle.model.proofs.Events.{fails, Event, Stepped, ordinary, read-done, own-done, differs, decides}
+use Rattle.model.proofs.Timeline.{Effect, put-deed, put-at}
+use Rattle.model.proofs.Granting.{perform-refused}
+use Rattle.model.proofs.Moments.{world-next}
+use Rattle.model.proofs.InRange.{ranged}
+use Rattle.model.proofs.CallKept.{next-mark}
+use Rattle.model.proofs.Happened.{Happened, looks, list-started, read-started, stepped, collected, looked, refused}
+use Rattle.model.proofs.EveryWorld.{invariant, happens}
+use Rattle.model.proofs.Answered.{collect-after, one-start}
+use Rattle.model.proofs.Ledger.{memory, values, call-at, called-is, Entered, Ledger, deed-before, ledger-stays, ledger-adds, Told, Covers, Within, within-more, covers-next}
+use Rattle.model.proofs.Running.{Started-as, Running, Going, Active, Unanswered, Pending, Cores, one-core, only-start, active-runs, undecided-active, pending-on, cores-go, cores-start}
+
+-- An order of the operations so far, from each call to the next.
+
+pub record Ordered (h : History) (t : ℕ) : Type 0 where
+  pub deeds : ℕ → Option Deed
+  -- the start of what each core runs
+  pub begun : ℕ → ℕ
+  pub ledger : Ledger h deeds t
+  pub covers : Covers h deeds t
+  pub cores : Cores h deeds begun t (memory h t)
+
+-- A start shows nothing new: no word holds a mark of an idle core's operation.
+shown-start : (a : Memory) (k : ℕ) (es : List Entry) (o : Own) → Inv a → a .place k ≡ Idle → shown-in (fresh-op a k es o) ≡ shown-in a
+shown-start a k es o inv idle = fun-ext (λ i. by i (a .word i) (inv .words i))
+  where
+    by : (i : ℕ) (x : Word) → Word-ok a i x → shown-of (a .pl) (upd (a .state) k state.Undecided) (upd (a .ents) k es) i x ≡ shown-says a i x
+    by i (word.Plain v) h = refl
+    by i (word.Placing m) h = refl
+    by i (word.Operation T) h =
+        let ne : T .core ≡ k → ⊥ = λ q. true≢false (rw (q, idle) at (h .1 .3)) in
+        rw (upd-other (a .state) k (T .core) state.Undecided ne, upd-other (a .ents) k (T .core) es ne)
+    by i (word.Foreign n) h = refl
+
+module _ (h : History) (t : ℕ) (lt : t < length (h .calls)) (g : Ordered h t) where
+  abbrev a : Memory
+  a = memory h t
+
+  abbrev a′ : Memory
+  a′ = memory h (t + 1)
+
+  abbrev f : ℕ → Option Deed
+  f = g .deeds
+
+  abbrev p : ℕ → ℕ
+  p = g .begun
+
+  inv : Inv a
+  inv = invariant h t
+
+  -- what is decided after the call was so before, where number and state are the same
+  decided-back : (c n x : ℕ) → a′ .num c ≡ a .num c → a′ .state c ≡ a .state c → Decided (world-at h (t + 1)) c n x → Decided (world-at h t) c n x
+  decided-back c n x nums states d = record { current = sym nums ∙ d .current; outcome = d .outcome; state = sym states ∙ d .state; answer = d .answer }
+
+  -- a start before the next call that is not this one is before it
+  start-before : (q c n : ℕ) (l : Entries) → Called h q (starts c l) (Ok n) → q < t + 1 → (Starts h t c (swap-all (listed l)) → ⊥) → q < t
+  start-before q c n l called m none =
+      ⊎-elim (λ z. z) (λ (z : t ≤ q). let e : q ≡ t = omega arith in absurd (none (list n (subst (λ (u : ℕ). Called h u (starts c l) (Ok n)) e called)))) (cases-lt q t)
+
+  -- Calls that start, decide and finish nothing that an order has to know.
+  goes-on : values h (t + 1) ≡ values h t → a′ .num ≡ a .num → a′ .ents ≡ a .ents → a′ .state ≡ a .state
+      → ((k : ℕ) → (a′ .own k ≡ own.Nothing → ⊥) → a′ .own k ≡ a .own k) → ((k : ℕ) → Active a′ k → is-finished (a .place k) ≡ false)
+      → ((k : ℕ) (x : Whole) → Starts h t k x → ⊥) → ((k : ℕ) → Active a′ k → Called h t (steps k) (Ok 1) → ⊥)
+      → ((q c n i : ℕ) → Called h q (reads c i) (Ok n) → Finishes h q c t → ⊥)
+      → ((j : ℕ) (w : Work) (i : ℕ) → a′ .place j ≡ Decide w (outcome.Failed i) → (a .place j ≡ Decide w (outcome.Failed i)) ⊎ (Current a (w .operation) → Undecided a (w .operation) → Pending h f (p (w .operation .core)) (t + 1) j a′ w i))
+      → Ordered h (t + 1)
+  goes-on same nums lists states owns before none unfinished unread pends = record {
+    deeds = f;
+    begun = p;
+    ledger = ledger-stays h f t (g .ledger) same;
+    covers = covers-next h f f t (g .covers) (λ _ _ e. e)
+        (λ q c n x l called m d. inr (start-before q c n l called m (λ s. none c _ s), decided-back c n x (ap (λ (z : ℕ → ℕ). z c) nums) (ap (λ (z : ℕ → State). z c) states) d))
+        (λ q c n i called fin. absurd (unread q c n i called fin));
+    cores = cores-go h t f f p a a′ (g .cores) nums lists owns
+        (λ k act. (before k act, rw (sym (owns k (active-runs a′ k act)), sym states) (act .1)))
+        none unfinished (λ _ _ _ _ e _. e)
+        (λ j w i e cur und. ⊎-elim
+        (λ (z : a .place j ≡ Decide w (outcome.Failed i)). pending-on h f f (p (w .operation .core)) t j a a′ w i
+        (g .cores .pending j w i z (sym (ap (λ (y : ℕ → ℕ). y (w .operation .core)) nums) ∙ cur) (sym (ap (λ (y : ℕ → State). y (w .operation .core)) states) ∙ und)) (ap (λ (y : ℕ → List Entry). y (w .operation .core)) lists) (λ _ _ _ y. y))
+        (λ z. z (sym (ap (λ (y : ℕ → ℕ). y (w .operation .core)) nums) ∙ cur) (sym (ap (λ (y : ℕ → State). y (w .operation .core)) states) ∙ und)) (pends j w i e));
+  }
+
+  starts-next : (k : ℕ) (es : List Entry) (o : Own) (pl : Place) → a .place k ≡ Idle → a′ ≡ move (fresh-op a k es o) k pl → fails pl ≡ false → Started-as h t k (a .num k + 1) es o
+      → ((j : ℕ) (x : Whole) → Starts h t j x → j ≡ k) → ((j : ℕ) → Called h t (steps j) (Ok 1) → ⊥) → Ordered h (t + 1)
+  starts-next k es o pl idle eq plain start only unstepped = record {
+    deeds = f;
+    begun = upd p k t;
+    ledger = ledger-stays h f t (g .ledger) (ap shown-in eq ∙ shown-start a k es o inv idle);
+    covers = covers-next h f f t (g .covers) (λ _ _ e. e)
+        (λ q c n x l called m d. ⊎-elim
+        (λ (z : c ≡ k). absurd (not-undecided (d .outcome) (sym (d .state) ∙ ap (λ (y : Memory). y .state c) eq ∙ upd-at (a .state) k c state.Undecided z)))
+        (λ (z : c ≡ k → ⊥). inr (start-before q c n l called m (λ s. z (only c _ s)), decided-back c n x (ap (λ (y : Memory). y .num c) eq ∙ upd-other (a .num) k c (a .num k + 1) z) (ap (λ (y : Memory). y .state c) eq ∙ upd-other (a .state) k c state.Undecided z) d)) (cases-eq c k))
+        (λ q c n i called fin. absurd (unstepped c (fin .finishing-step)));
+    cores = subst (Cores h f (upd p k t) (t + 1)) (sym eq) (cores-start h t f p a k es o pl (g .cores) (g .ledger) inv start plain only unstepped);
+  }
+
+  -- A granted step of core k.
+  module _ (k : ℕ) (call-is : call-at h t ≡ steps k) (ans-is : perform (world-at h t) (steps k) .answer ≡ Ok (cond (is-finished (a′ .place k)) 1 0)) (busy : is-finished (a .place k) ≡ false) (st : Stepped a a′ k) where
+    no-start : (j : ℕ) (x : Whole) → Starts h t j x → ⊥
+    no-start j _ (list {l = l} n called) = let e = called-is h t (starts j l) (steps k) (Ok n) _ call-is ans-is called .0 in absurd (grind arith)
+    no-start j _ (read-of {i = i} n called) = let e = called-is h t (reads j i) (steps k) (Ok n) _ call-is ans-is called .0 in absurd (grind arith)
+
+    one-or-none : (b : Bool) → _≡_ {A = Result ℕ Refusal} (Ok 1) (Ok (cond b 1 0)) → b ≡ true
+    one-or-none true e = refl
+    one-or-none false e = absurd (grind arith)
+
+    finishing : (j : ℕ) → Called h t (steps j) (Ok 1) → (j ≡ k) × (is-finished (a′ .place k) ≡ true)
+    finishing j called =
+        let e = called-is h t (steps j) (steps k) (Ok 1) _ call-is ans-is called in
+        let s : steps j ≡ steps k = e .0 in (cc, one-or-none (is-finished (a′ .place k)) (e .1))
+
+    before : (j : ℕ) → is-finished (a′ .place j) ≡ false → is-finished (a .place j) ≡ false
+    before j act = ⊎-elim (λ (q : j ≡ k). rw q busy) (λ (n : j ≡ k → ⊥). rw (st .others j n) at act) (cases-eq j k)
+
+    unfinished : (j : ℕ) → Active a′ j → Called h t (steps j) (Ok 1) → ⊥
+    unfinished j act called = let e = finishing j called in both-ways _ (subst (λ (x : ℕ). is-finished (a′ .place x) ≡ false) (e .0) (act .0)) (e .1)
+
+    same-own : (j : ℕ) → a′ .own j ≡ a .own j
+    same-own j = ap (λ (y : ℕ → Own). y j) (st .owns)
+
+    same-num : (j : ℕ) → a′ .num j ≡ a .num j
+    same-num j = ap (λ (y : ℕ → ℕ). y j) (st .nums)
+
+    same-ents : (j : ℕ) → a′ .ents j ≡ a .ents j
+    same-ents j = ap (λ (y : ℕ → List Entry). y j) (st .lists)
+
+    -- a core at a granted step runs something
+    runs : is-idle (a .place k) ≡ false → a .own k ≡ own.Nothing → ⊥
+    runs busier e = let idle : a .place k ≡ Idle = rw e at (inv .owns k) in false≢true (sym busier ∙ ap is-idle idle)
+
+    -- a place of core j after the step: as before, unless j is k
+    place-before : (j : ℕ) (x : Place) → a′ .place j ≡ x → (j ≡ k) ⊎ (a .place j ≡ x)
+    place-before j x e = ⊎-elim (λ (q : j ≡ k). inl q) (λ (n : j ≡ k → ⊥). inr (sym (st .others j n) ∙ e)) (cases-eq j k)
+
+    step-on : values h (t + 1) ≡ values h t → a′ .state ≡ a .state → ((q c n i : ℕ) → Called h q (reads c i) (Ok n) → Finishes h q c t → ⊥)
+        → ((w : Work) (i : ℕ) → a′ .place k ≡ Decide w (outcome.Failed i) → Current a (w .operation) → Undecided a (w .operation) → Pending h f (p (w .operation .core)) (t + 1) k a′ w i) → Ordered h (t + 1)
+    step-on same states unread pends =
+        goes-on same (st .nums) (st .lists) states (λ j _. same-own j) (λ j act. before j (act .0)) no-start unfinished unread
+        (λ j w i e. ⊎-elim
+        (λ (q : j ≡ k). inr (subst (λ (x : ℕ). a′ .place x ≡ Decide w (outcome.Failed i) → Current a (w .operation) → Undecided a (w .operation) → Pending h f (p (w .operation .core)) (t + 1) x a′ w i) (sym q) (pends w i) e))
+        (λ z. inl z) (place-before j _ e))
+
+    not-failing : fails (a′ .place k) ≡ false → (w : Work) (i : ℕ) → a′ .place k ≡ Decide w (outcome.Failed i) → ⊥
+    not-failing n w i e = both-ways _ n (ap fails e)
+
+    not-finishing : is-finished (a′ .place k) ≡ false → (q c n i : ℕ) → Called h q (reads c i) (Ok n) → Finishes h q c t → ⊥
+    not-finishing n q c m i called fin = both-ways _ n (finishing c (fin .finishing-step) .1)
+
+    -- Try sees a value that differs: what it saw is kept for its decision.
+    saw : (w : Work) (i : ℕ) → (Current a (w .operation) → (i < length (a .ents (w .operation .core))) × (values h t (entry a (w .operation) i .word) ≡ entry a (w .operation) i .expected → ⊥))
+        → Current a (w .operation) → Undecided a (w .operation) → Pending h f (p (w .operation .core)) (t + 1) k a′ w i
+    saw w i sight cur und =
+        let act = undecided-active a (w .operation) inv und (omega (arith, sight cur .0)) in
+        record {
+          seen = t;
+          earlier = omega arith;
+          after-start = g .cores .running (w .operation .core) (active-runs a (w .operation .core) act) .before;
+          stepped-then = call-is;
+          free = g .ledger .later t (le-refl t);
+          inside = rw (same-ents (w .operation .core)) (sight cur .0);
+          differs = rw (same-ents (w .operation .core)) (sight cur .1);
+        }
+
+    -- the read that finishes now is the one that core k runs
+    its-start : is-idle (a .place k) ≡ false → (q c n i : ℕ) → Called h q (reads c i) (Ok n) → Finishes h q c t → (c ≡ k) × (q ≡ p k)
+    its-start busier q c n i called fin =
+        let e = finishing c (fin .finishing-step) .0 in (
+          e,
+          only-start h (p k) t k (a .num k) (a .ents k) (a .own k) (g .cores .running k (runs busier)) q (look-at i)
+              (subst (λ (x : ℕ). Starts h q x (look-at i)) e (read-of n called)) (fin .later) (subst (λ (x : ℕ). (r : ℕ) (y : Whole) → q < r → r < t → Starts h r x y → ⊥) e (fin .no-other-start)),
+        )
+
+    list-not-read : (o : Own) (M : Mark) → o ≡ own.List M → Started-as h (p k) k (a .num k) (a .ents k) o → (q c n i : ℕ) → Called h q (reads c i) (Ok n) → q ≡ p k → ⊥
+    list-not-read own.Nothing M e s q c n i called z = s
+    list-not-read (own.Read x) M e s q c n i called z = absurd (grind arith)
+    list-not-read (own.List x) M e s q c n i called z =
+        let bad : starts k (s .0) ≡ reads c i = sym (s .1 .call) ∙ ap (call-at h) (sym z) ∙ called .call in absurd (grind arith)
+
+    -- A deed more, of an operation of core c that was under way and is not any more.
+    adds : (c s : ℕ) (d : Deed) → Active a c → (Active a′ c → ⊥) → d .start-of ≡ p c → d .core-of ≡ c → Answers h (d .start-of) (d .core-of) (d .what) (d .answered)
+        → s ≤ t → p c < s → f s ≡ None → Effect (Some d) (values h s) (values h (s + 1)) → ((s ≡ t → ⊥) → values h (t + 1) ≡ values h t)
+        → ((j : ℕ) → (j ≡ c → ⊥) → a′ .state j ≡ a .state j)
+        → ((q c′ n x : ℕ) (l : Entries) → Called h q (starts c′ l) (Ok n) → c′ ≡ c → Decided (world-at h (t + 1)) c′ n x → (q ≡ p c) ⊎ Decided (world-at h t) c′ n x)
+        → ((q c′ n i : ℕ) → Called h q (reads c′ i) (Ok n) → Finishes h q c′ t → q ≡ p c)
+        → fails (a′ .place k) ≡ false → ((j r : ℕ) → (j ≡ k → ⊥) → r < t → call-at h r ≡ steps j → r ≡ s → ⊥)
+        → ((j : ℕ) → j ≡ c → Undecided a′ (record { core = j; number = 0 }) → Undecided a (record { core = j; number = 0 }))
+        → Ordered h (t + 1)
+    adds c s d act rest at-start at-core answers le later free done same states its-decided its-read plain apart undecided = record {
+      deeds = f′;
+      begun = p;
+      ledger = ledger-adds h f t s d (g .ledger) le free done same
+          (record {
+            answers = answers;
+            after-start = omega (arith, at-start);
+            in-time = λ q fin. ⊎-elim
+                (λ (z : q < t). absurd (un .unfinished q (omega (arith, fin .later, at-start)) z (subst (λ (x : ℕ). Called h q (steps x) (Ok 1)) at-core (fin .finishing-step))))
+                (λ (z : t ≤ q). omega arith) (cases-lt q t);
+          })
+          (λ r e z q. un .no-deed r e z (q ∙ at-start));
+      covers = covers-next h f f′ t (g .covers) (within-more f s d free)
+          (λ q c′ n x l called m dec. ⊎-elim
+          (λ (z : c′ ≡ c). ⊎-elim (λ (e : q ≡ p c). inl (told q e)) (λ y. inr (start-before q c′ n l called m (no-start c′ _), y)) (its-decided q c′ n x l called z dec))
+          (λ (z : c′ ≡ c → ⊥). inr (start-before q c′ n l called m (no-start c′ _), decided-back c′ n x (same-num c′) (states c′ z) dec)) (cases-eq c′ c))
+          (λ q c′ n i called fin. told q (its-read q c′ n i called fin));
+      cores = cores-go h t f f′ p a a′ (g .cores) (st .nums) (st .lists) (λ j _. same-own j)
+          (λ j z. (before j (z .0), rw (sym (same-own j), sym (states j (λ q. rest (subst (Active a′) q z)))) (z .1)))
+          no-start unfinished fewer pends;
+    }
+      where
+        f′ : ℕ → Option Deed
+        f′ = put-deed f s d
+
+        un : Unanswered h f (p c) t c
+        un = g .cores .unanswered c act
+
+        told : (q : ℕ) → q ≡ p c → Told f′ q
+        told q e = (s, d, put-at f s d, at-start ∙ sym e)
+
+        fewer : (j : ℕ) → Active a′ j → (r : ℕ) (e : Deed) → f′ r ≡ Some e → e .start-of ≡ p j → f r ≡ Some e
+        fewer j z r e y q =
+            ⊎-elim
+            (λ (u : (r ≡ s) × (Some d ≡ Some e)). let v = u .1 in let w : d ≡ e = cc in
+            let o = g .cores .running j (λ x. active-runs a′ j z (same-own j ∙ x)) in
+            let m = g .cores .running c (active-runs a c act) in
+            absurd (rest (subst (Active a′) (one-core h (p j) (p c) j c _ _ _ _ _ _ (o .start) (m .start) (sym q ∙ ap (λ (x : Deed). x .start-of) (sym w) ∙ at-start)) z)))
+            (λ u. u .1) (upd-is f s r (Some d) (Some e) y)
+
+        pends : (j : ℕ) (w : Work) (i : ℕ) → a′ .place j ≡ Decide w (outcome.Failed i) → Current a′ (w .operation) → Undecided a′ (w .operation) → Pending h f′ (p (w .operation .core)) (t + 1) j a′ w i
+        pends j w i e cur und =
+            ⊎-elim (λ (q : j ≡ k). absurd (not-failing plain w i (subst (λ (x : ℕ). a′ .place x ≡ Decide w (outcome.Failed i)) q e)))
+            (λ (n : j ≡ k → ⊥). pending-on h f f′ (p (w .operation .core)) t j a a′ w i
+            (g .cores .pending j w i (sym (st .others j n) ∙ e) (sym (same-num (w .operation .core)) ∙ cur)
+            (⊎-elim (λ (q : w .operation .core ≡ c). undecided (w .operation .core) q und) (λ (m : w .operation .core ≡ c → ⊥). sym (states (w .operation .core) m) ∙ und) (cases-eq (w .operation .core) c)))
+            (same-ents (w .operation .core)) (λ r l x y. upd-both f s r (Some d) (λ o. o ≡ None) (λ q. absurd (apart j r n l x q)) (λ _. y))) (cases-eq j k)
+
+    -- A read finishes.
+    granted-step : refusal-of (world-at h t) (steps k) ≡ None
+    granted-step = by (refusal-of (world-at h t) (steps k)) refl
+      where
+        by : (o : Option Refusal) → refusal-of (world-at h t) (steps k) ≡ o → o ≡ None
+        by None e = refl
+        by (Some q) e =
+            let bad : _≡_ {A = Result ℕ Refusal} (Err q) (Ok (cond (is-finished (a′ .place k)) 1 0)) = sym (ap (λ x. x .answer) (perform-refused (world-at h t) (steps k) q e)) ∙ ans-is in absurd (grind arith)
+
+    world-is : world-at h (t + 1) ≡ perform (world-at h t) (steps k) .world
+    world-is = world-next h t lt ∙ ap (λ (c : Call). perform (world-at h t) c .world) call-is
+
+    reads-done : (i v : ℕ) → is-idle (a .place k) ≡ false → a .place k ≡ Look i → a′ .place k ≡ Finished v → values h t i ≡ v → values h (t + 1) ≡ values h t → a′ .state ≡ a .state → Ordered h (t + 1)
+    reads-done i v busier here fin saw-v same states =
+        adds k t d act (λ z. true≢false (rw fin at (z .0))) refl refl answers (le-refl t) (run .before) (g .ledger .later t (le-refl t)) done (λ n. absurd (n refl))
+        (λ j _. ap (λ (y : ℕ → State). y j) states)
+        (λ q c′ n x l called z dec. inr (decided-back c′ n x (same-num c′) (ap (λ (y : ℕ → State). y c′) states) dec))
+        (λ q c′ n x called z. its-start busier q c′ n x called z .1)
+        (rw fin) (λ j r n l x q. omega arith) (λ j _ u. sym (ap (λ (y : ℕ → State). y j) states) ∙ u)
+      where
+        own-is : a .own k ≡ own.Read i
+        own-is = rw here at (inv .places-ok k)
+
+        act : Active a k
+        act = (busy, subst (λ (o : Own). Going o (a .state k)) (sym own-is) tt)
+
+        run : Running h (p k) t k (a .num k) (a .ents k) (a .own k)
+        run = g .cores .running k (runs busier)
+
+        d : Deed
+        d = record { start-of = p k; core-of = k; what = look-at i; answered = v }
+
+        answers : Answers h (p k) k (look-at i) v
+        answers =
+            finished (a .num k) t v (subst (Started-as h (p k) k (a .num k) (a .ents k)) own-is (run .start))
+            (record { later = run .before; finishing-step = record { there = lt; call = call-is; answers = rw fin at ans-is }; no-other-start = λ q x l m s. run .no-later q x l m s })
+            (subst (λ (w : World). perform w (collects k) .answer ≡ Ok v) (sym world-is)
+            (collect-after (h .setting .first) (world-at h t) k v (ranged h t) granted-step (subst (λ (w : World). core-at w k .place ≡ Finished v) world-is fin)))
+
+        done : Done (look-at i) (values h t) v (values h (t + 1))
+        done = subst (λ (x : ℕ). Done (look-at i) (values h t) x (values h (t + 1))) saw-v (subst (Done (look-at i) (values h t) (values h t i)) (sym same) sees)

@@ -320,3 +320,92 @@ module _ (h : History) (t : ℕ) (lt : t < length (h .calls)) (g : Ordered h t) 
 
         done : Done (look-at i) (values h t) v (values h (t + 1))
         done = subst (λ (x : ℕ). Done (look-at i) (values h t) x (values h (t + 1))) saw-v (subst (Done (look-at i) (values h t) (values h t i)) (sym same) sees)
+
+    -- An operation is decided.
+    module _ (w : Work) (o : Outcome) (here : a .place k ≡ Decide w o) (cur : Current a (w .operation)) (und : Undecided a (w .operation))
+        (eq : a′ ≡ move (settled a (w .operation .core) (state-of o)) k (Clear (first-entry (w .operation) (w .count)) o clearing.Read)) where
+      abbrev c : ℕ
+      c = w .operation .core
+
+      some : 0 < length (a .ents c)
+      some = rw here at (inv .places-ok k) .2 cur
+
+      act : Active a c
+      act = undecided-active a (w .operation) inv und some
+
+      run : Running h (p c) t c (a .num c) (a .ents c) (a .own c)
+      run = g .cores .running c (active-runs a c act)
+
+      -- it is a k-CAS
+      of-list : (x : Own) → Own-ok a c x → Started-as h (p c) c (a .num c) (a .ents c) x → (M : Mark) × (x ≡ own.List M) × (l : Entries) × Called h (p c) (starts c l) (Ok (a .num c)) × (listed l ≡ a .ents c)
+      of-list own.Nothing ok s = absurd s
+      of-list (own.Read i) ok s = absurd (omega (arith, some, ap (λ (es : List Entry). length es) ok))
+      of-list (own.List M) ok s = (M, refl, s .0, s .1, s .2)
+
+      started : (M : Mark) × (a .own c ≡ own.List M) × (l : Entries) × Called h (p c) (starts c l) (Ok (a .num c)) × (listed l ≡ a .ents c)
+      started = of-list (a .own c) (inv .owns c) (run .start)
+
+      decided-now : a′ .state c ≡ state-of o
+      decided-now = ap (λ (y : Memory). y .state c) eq ∙ upd-same (a .state) c (state-of o)
+
+      resting : Active a′ c → ⊥
+      resting z =
+          not-undecided o (sym decided-now ∙ subst (λ (x : Own). Going x (a′ .state c)) (same-own c ∙ started .1) (z .1))
+
+      goes-clearing : a′ .place k ≡ Clear (first-entry (w .operation) (w .count)) o clearing.Read
+      goes-clearing = ap (λ (y : Memory). y .place k) eq ∙ upd-same (a .place) k _
+
+      decided-by : (s : ℕ) → s ≤ t → p c < s → f s ≡ None → Done (swap-all (a .ents c)) (values h s) (answer-of o) (values h (s + 1)) → ((s ≡ t → ⊥) → values h (t + 1) ≡ values h t)
+          → ((j r : ℕ) → (j ≡ k → ⊥) → r < t → call-at h r ≡ steps j → r ≡ s → ⊥) → Ordered h (t + 1)
+      decided-by s le later free done same apart =
+          adds c s (record { start-of = p c; core-of = c; what = swap-all (listed l); answered = answer-of o }) act resting refl refl
+          (decided (a .num c) (answer-of o) (t + 1) (started .3) (omega (arith, run .before)) (omega arith) (record { current = same-num c; outcome = o; state = decided-now; answer = refl }))
+          le later free (subst (λ (es : List Entry). Done (swap-all es) (values h s) (answer-of o) (values h (s + 1))) (sym (started .4)) done) same
+          (λ j n. ap (λ (y : Memory). y .state j) eq ∙ upd-other (a .state) c j (state-of o) n)
+          (λ q c′ n x l′ called z dec. inl (one-start h q (p c) c n (starts c l′) (starts c l) refl refl (subst (λ (y : ℕ). Called h q (starts y l′) (Ok n)) z called)
+          (subst (λ (y : ℕ). Called h (p c) (starts c l) (Ok y)) (sym (same-num c) ∙ subst (λ (y : ℕ). a′ .num y ≡ n) z (dec .current)) (started .3))))
+          (λ q c′ n i called fin. absurd (not-finishing (rw goes-clearing) q c′ n i called fin))
+          (rw goes-clearing) apart
+          (λ j q u. absurd (not-undecided o (sym decided-now ∙ subst (λ (y : ℕ). a′ .state y ≡ state.Undecided) q u)))
+        where
+          l : Entries
+          l = started .2
+
+    succeeds-next : (w : Work) → a .place k ≡ Decide w outcome.Succeeded → Current a (w .operation) → Undecided a (w .operation)
+        → a′ ≡ move (settled a (w .operation .core) state.Succeeded) k (Clear (first-entry (w .operation) (w .count)) outcome.Succeeded clearing.Read) → Ordered h (t + 1)
+    succeeds-next w here cur und eq =
+        decided-by w outcome.Succeeded here cur und eq t (le-refl t) (run w outcome.Succeeded here cur und eq .before) (g .ledger .later t (le-refl t))
+        (subst (Done (swap-all (a .ents (w .operation .core))) (values h t) 0) (sym (ap shown-in eq)) (succeeds (all-expected a (w .operation) inv cur und full) (new-stored a (w .operation) inv cur und full)))
+        (λ n. absurd (n refl)) (λ j r n l x q. omega arith)
+      where
+        ok : Place-ok a k (Decide w outcome.Succeeded)
+        ok = rw here at (inv .places-ok k)
+
+        full : (j : ℕ) → j < length (a .ents (w .operation .core)) → a .word (entry a (w .operation) j .word) ≡ word.Operation (w .operation)
+        full j l = ok .3 cur und j (omega (arith, ok .1 cur))
+
+    fails-next : (w : Work) (i : ℕ) → a .place k ≡ Decide w (outcome.Failed i) → Current a (w .operation) → Undecided a (w .operation)
+        → a′ ≡ move (settled a (w .operation .core) (state.Failed i)) k (Clear (first-entry (w .operation) (w .count)) (outcome.Failed i) clearing.Read) → Ordered h (t + 1)
+    fails-next w i here cur und eq =
+        let d = g .cores .pending k w i here cur und in
+        let still : values h (d .seen + 1) ≡ values h (d .seen) = subst (λ (x : Option Deed). Effect x (values h (d .seen)) (values h (d .seen + 1))) (d .free) (g .ledger .effects (d .seen) (d .earlier)) in
+        decided-by w (outcome.Failed i) here cur und eq (d .seen) (omega (arith, d .earlier)) (d .after-start) (d .free)
+        (subst (Done (swap-all (a .ents (w .operation .core))) (values h (d .seen)) (i + 1)) (sym still) (fails-at i (d .inside) (d .differs)))
+        (λ _. ap shown-in eq ∙ shown-failed a (w .operation .core) i und)
+        (λ j r n l x q. let s : steps j ≡ steps k = sym x ∙ ap (call-at h) q ∙ d .stepped-then in n cc)
+
+    -- Every granted step.
+    step-next : is-idle (a .place k) ≡ false → Event a a′ k → Ordered h (t + 1)
+    step-next busier (ordinary same states ord) = step-on same states (not-finishing (ord .0)) (λ w i e. absurd (not-failing (ord .1) w i e))
+    step-next busier (read-done i v here fin saw-v same states) = reads-done i v busier here fin saw-v same states
+    step-next busier (own-done M o mine dec fin same states) =
+        step-on same states
+        (λ q c n i called z. list-not-read (a .own k) M mine (g .cores .running k (runs busier) .start) q c n i called (its-start busier q c n i called z .1))
+        (λ w i e. absurd (not-failing (rw fin) w i e))
+    step-next busier (differs w i place made sight same states) =
+        step-on same states (not-finishing (rw place))
+        (λ v j e. let z : Decide w (outcome.Failed i) ≡ Decide v (outcome.Failed j) = sym place ∙ e in let q : w ≡ v = cc in let r : i ≡ j = cc in
+        subst (λ (x : Work). Current a (x .operation) → Undecided a (x .operation) → Pending h f (p (x .operation .core)) (t + 1) k a′ x j) q
+        (subst (λ (x : ℕ). Current a (w .operation) → Undecided a (w .operation) → Pending h f (p (w .operation .core)) (t + 1) k a′ w x) r (saw w i sight)))
+    step-next busier (decides w outcome.Succeeded here cur und eq) = succeeds-next w here cur und eq
+    step-next busier (decides w (outcome.Failed i) here cur und eq) = fails-next w i here cur und eq

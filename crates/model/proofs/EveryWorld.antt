@@ -35,7 +35,7 @@ use Rattle.model.proofs.Happened.{Goes, Happened, call-goes}
 -- The invariants hold in every world of every history.
 
 -- what holds of new cores holds of every core of the opened world
-each-core : (h : History) (k : ℕ) (P : Core → Type 0) → ((n : ℕ) → P (new-core n)) → P (core-at (opening-of h) k)
+pub each-core : (h : History) (k : ℕ) (P : Core → Type 0) → ((n : ℕ) → P (new-core n)) → P (core-at (opening-of h) k)
 each-core h k P new =
     ⊎-elim (λ (l : k < 8). subst P (sym (getD-replicate 8 k (new-core (h .setting .first)) (new-core 0) l)) (new _))
     (λ (l : 8 ≤ k). subst P (sym (getD-past (replicate 8 (new-core (h .setting .first))) k (new-core 0) (omega (arith, length-replicate 8 (new-core (h .setting .first)))))) (new 0)) (cases-lt k 8)

@@ -44,3 +44,4 @@ pub mod Ledger
 pub mod Running
 pub mod Answered
 pub mod Ordered
+pub mod OrderPromise

@@ -5,6 +5,7 @@ use mathlib.Core.Bool.{Bool, true, false, cond}
 use Prim.Native.Nat.{ℕ, zero, suc, _+_, _<_, _≤_}
 use native.Mathlib.Omega.{arith}
 use native.Mathlib.Nat.{le-refl}
+use native.Mathlib.Numerals.{add-one}
 use lib.ListN.{length}
 use Rattle.std.specs.declared.option.Option.{Option}
 use Rattle.std.specs.declared.option.Option.the-variants.{Some, None}
@@ -33,10 +34,10 @@ use Rattle.model.specs.declared.table.Refusal.{Refusal}
 use Rattle.model.specs.World.{World, core-at}
 use Rattle.model.specs.Rules.{answer-of, first-entry}
 use Rattle.model.specs.Shown.{value-among}
-use Rattle.model.specs.Calls.{Call, starts, reads, steps, collects}
+use Rattle.model.specs.Calls.{Call, starts, reads, steps, collects, started-core}
 use Rattle.model.specs.Refusals.{refusal-of, is-idle, is-finished}
 use Rattle.model.specs.Perform.{perform}
-use Rattle.model.specs.Histories.{History, world-at, Called}
+use Rattle.model.specs.Histories.{History, after-calls, opening-of, world-at, Called}
 use Rattle.model.specs.Plain.{Deed, Whole, swap-all, look-at, Done, succeeds, fails as fails-at, sees}
 use Rattle.model.specs.Promises.{Starts, list, word as read-of, Finishes, Decided, Answers, decided, finished}
 use Rattle.model.proofs.Memory.{Memory, view, entry, upd, move, settled, fresh-op, disown}
@@ -51,7 +52,7 @@ use Rattle.model.proofs.Moments.{world-next}
 use Rattle.model.proofs.InRange.{ranged}
 use Rattle.model.proofs.CallKept.{next-mark}
 use Rattle.model.proofs.Happened.{Happened, looks, list-started, read-started, stepped, collected, looked, refused}
-use Rattle.model.proofs.EveryWorld.{invariant, happens}
+use Rattle.model.proofs.EveryWorld.{each-core, invariant, happens}
 use Rattle.model.proofs.Answered.{collect-after, one-start}
 use Rattle.model.proofs.Ledger.{memory, values, call-at, called-is, Entered, Ledger, deed-before, ledger-stays, ledger-adds, Told, Covers, Within, within-more, covers-next}
 use Rattle.model.proofs.Running.{Started-as, Running, Going, Active, Unanswered, Pending, Cores, one-core, only-start, active-runs, undecided-active, pending-on, cores-go, cores-start}
@@ -409,3 +410,79 @@ module _ (h : History) (t : ℕ) (lt : t < length (h .calls)) (g : Ordered h t) 
         (subst (λ (x : ℕ). Current a (w .operation) → Undecided a (w .operation) → Pending h f (p (w .operation .core)) (t + 1) k a′ w x) r (saw w i sight)))
     step-next busier (decides w outcome.Succeeded here cur und eq) = succeeds-next w here cur und eq
     step-next busier (decides w (outcome.Failed i) here cur und eq) = fails-next w i here cur und eq
+
+  -- Calls that change nothing here.
+  stays : (c : Call) (r : Result ℕ Refusal) → call-at h t ≡ c → perform (world-at h t) c .answer ≡ r → ((k : ℕ) (l : Entries) (n : ℕ) → starts k l ≡ c → Ok n ≡ r → ⊥) → ((k i n : ℕ) → reads k i ≡ c → Ok n ≡ r → ⊥)
+      → ((k : ℕ) → steps k ≡ c → Ok 1 ≡ r → ⊥) → a′ ≡ a → Ordered h (t + 1)
+  stays c r call-is ans-is no-list no-read no-step eq =
+      goes-on (ap shown-in eq) (ap (λ (y : Memory). y .num) eq) (ap (λ (y : Memory). y .ents) eq) (ap (λ (y : Memory). y .state) eq)
+      (λ k _. ap (λ (y : Memory). y .own k) eq) (λ k act. sym (ap (λ (y : Memory). is-finished (y .place k)) eq) ∙ act .0) none (λ k _ called. no-finish k called)
+      (λ q c′ n i called fin. no-finish c′ (fin .finishing-step)) (λ j w i e. inl (sym (ap (λ (y : Memory). y .place j) eq) ∙ e))
+    where
+      none : (j : ℕ) (x : Whole) → Starts h t j x → ⊥
+      none j _ (list {l = l} n called) = let e = called-is h t (starts j l) c (Ok n) r call-is ans-is called in no-list j l n (e .0) (e .1)
+      none j _ (read-of {i = i} n called) = let e = called-is h t (reads j i) c (Ok n) r call-is ans-is called in no-read j i n (e .0) (e .1)
+
+      no-finish : (k : ℕ) → Called h t (steps k) (Ok 1) → ⊥
+      no-finish k called = let e = called-is h t (steps k) c (Ok 1) r call-is ans-is called in no-step k (e .0) (e .1)
+
+  collects-next : (k v : ℕ) → call-at h t ≡ collects k → a .place k ≡ Finished v → a′ ≡ disown (move a k Idle) k own.Nothing → perform (world-at h t) (collects k) .answer ≡ Ok v → Ordered h (t + 1)
+  collects-next k v call-is here eq ans-is =
+      goes-on (ap shown-in eq) (ap (λ (y : Memory). y .num) eq) (ap (λ (y : Memory). y .ents) eq) (ap (λ (y : Memory). y .state) eq)
+      (λ j ne. ap (λ (y : Memory). y .own j) eq ∙ upd-other (a .own) k j own.Nothing (λ q. ne (ap (λ (y : Memory). y .own j) eq ∙ upd-at (a .own) k j own.Nothing q)))
+      (λ j act. let n : j ≡ k → ⊥ = λ q. active-runs a′ j act (ap (λ (y : Memory). y .own j) eq ∙ upd-at (a .own) k j own.Nothing q) in ap is-finished (sym (ap (λ (y : Memory). y .place j) eq ∙ upd-other (a .place) k j Idle n)) ∙ act .0)
+      none (λ j _ called. no-finish j called) (λ q c′ n i called fin. no-finish c′ (fin .finishing-step))
+      (λ j w i e. inl (⊎-elim
+      (λ (q : j ≡ k). let bad : Idle ≡ Decide w (outcome.Failed i) = sym (ap (λ (y : Memory). y .place j) eq ∙ upd-at (a .place) k j Idle q) ∙ e in absurd (grind arith))
+      (λ (n : j ≡ k → ⊥). sym (ap (λ (y : Memory). y .place j) eq ∙ upd-other (a .place) k j Idle n) ∙ e) (cases-eq j k)))
+    where
+      none : (j : ℕ) (x : Whole) → Starts h t j x → ⊥
+      none j _ (list {l = l} n called) = let e = called-is h t (starts j l) (collects k) (Ok n) _ call-is ans-is called .0 in absurd (grind arith)
+      none j _ (read-of {i = i} n called) = let e = called-is h t (reads j i) (collects k) (Ok n) _ call-is ans-is called .0 in absurd (grind arith)
+
+      no-finish : (j : ℕ) → Called h t (steps j) (Ok 1) → ⊥
+      no-finish j called = let e = called-is h t (steps j) (collects k) (Ok 1) _ call-is ans-is called .0 in absurd (grind arith)
+
+  -- a start names its core
+  its-core : (k : ℕ) → started-core (call-at h t) ≡ Some k → (j : ℕ) (x : Whole) → Starts h t j x → j ≡ k
+  its-core k e j _ (list {l = l} n called) = let z : Some j ≡ Some k = sym (ap started-core (called .call)) ∙ e in cc
+  its-core k e j _ (read-of {i = i} n called) = let z : Some j ≡ Some k = sym (ap started-core (called .call)) ∙ e in cc
+
+  -- Every call.
+  next-by : (c : Call) (r : Result ℕ Refusal) → call-at h t ≡ c → perform (world-at h t) c .answer ≡ r → Happened a a′ c r → Ordered h (t + 1)
+  next-by _ _ e q (list-started k l idle eq) =
+      starts-next k (listed l) (own.List (next-mark a k)) (Begin (next-mark a k)) idle eq refl (l, record { there = lt; call = e; answers = q }, refl) (its-core k (ap started-core e))
+      (λ j called. let z = called-is h t (steps j) (starts k l) (Ok 1) _ e q called .0 in absurd (grind arith))
+  next-by _ _ e q (read-started k i idle eq) =
+      starts-next k [] (own.Read i) (Look i) idle eq refl (record { there = lt; call = e; answers = q }) (its-core k (ap started-core e))
+      (λ j called. let z = called-is h t (steps j) (reads k i) (Ok 1) _ e q called .0 in absurd (grind arith))
+  next-by _ _ e q (stepped k busier busy st) = step-next k e q busy st busier (st .event)
+  next-by _ _ e q (collected k v here eq) = collects-next k v e here eq q
+  next-by _ _ e q (looked c n quiet eq) =
+      stays c (Ok n) e q (λ k l m z _. false≢true (ap looks z ∙ quiet)) (λ k i m z _. false≢true (ap looks z ∙ quiet)) (λ k z _. false≢true (ap looks z ∙ quiet)) eq
+  next-by _ _ e q (refused c r eq) = stays c (Err r) e q (λ k l m _ z. absurd (grind arith)) (λ k i m _ z. absurd (grind arith)) (λ k _ z. absurd (grind arith)) eq
+
+  pub ordered-next : Ordered h (t + 1)
+  ordered-next = next-by (call-at h t) _ refl refl (happens h t lt)
+
+-- Before the first call, nothing is under way.
+opened-idle : (h : History) (k : ℕ) → (view (opening-of h) .own k ≡ own.Nothing) × (view (opening-of h) .place k ≡ Idle)
+opened-idle h k = (each-core h k (λ c. c .own ≡ own.Nothing) (λ _. refl), each-core h k (λ c. c .place ≡ Idle) (λ _. refl))
+
+ordered-opening : (h : History) → Ordered h 0
+unfolding after-calls
+ordered-opening h = record {
+  deeds = λ _. None;
+  begun = λ _. 0;
+  ledger = record { effects = λ s l. absurd (omega arith); later = λ s l. refl; entered = λ s d e. absurd (grind arith); once = λ s r d e x y z. absurd (grind arith) };
+  covers = record { decided-told = λ q c n x u l called m le dec. absurd (omega arith); read-told = λ q c n i u called fin l. absurd (omega arith) };
+  cores = record {
+    running = λ k ne. absurd (ne (opened-idle h k .0));
+    unanswered = λ k act. absurd (active-runs (view (opening-of h)) k act (opened-idle h k .0));
+    pending = λ j w i e cur und. let bad : Idle ≡ Decide w (outcome.Failed i) = sym (opened-idle h j .1) ∙ e in absurd (grind arith);
+  };
+}
+
+pub ordered : (h : History) (t : ℕ) → t ≤ length (h .calls) → Ordered h t
+ordered h zero l = ordered-opening h
+ordered h (suc t) l = subst (Ordered h) (add-one t) (ordered-next h t (omega arith) (ordered h t (omega arith)))

@@ -24,6 +24,11 @@ use Rattle.model.specs.Calls.{Call, steps, opens}
 use Rattle.model.specs.Refusals.{table-for, is-plain}
 use Rattle.model.specs.Perform.{perform, closed-table}
 use Rattle.model.specs.Histories.{History, after-calls, opening-of, world-at, world-of}
+use Rattle.model.specs.Relation.{In-range}
+use Rattle.model.specs.StepLaw.{Steps-follow-rules}
+use Rattle.model.specs.declared.table.Refusal.the-variants.{NoCore}
+use Rattle.model.proofs.RefusalTable.{none-holds}
+use Rattle.model.proofs.RuleComplete.{relation-law}
 use Rattle.model.proofs.Memory.{Memory, view}
 use Rattle.model.proofs.Facts.{Made, Apart, Place-ok, Word-ok, Own-ok, Inv}
 use Rattle.model.proofs.Granting.{test-fails, all-plain}
@@ -76,3 +81,20 @@ pub happens : (h : History) (t : ℕ) → t < length (h .calls)
 happens h t l =
     let c = getD (h .calls) t (steps 0) in
     subst (λ (w : World). Happened (view (world-at h t)) (view w) c (perform (world-at h t) c .answer)) (sym (world-next h t l)) (goes-at h t (invariant h t) c .1)
+
+-- and every granted step, at any moment, follows a rule
+pub steps-follow-rules : Steps-follow-rules
+steps-follow-rules h t k e =
+    record { by-a-rule = relation-law .complete w k e in-range (not-stuck first w k (ranged h t) (invariant h t) there); by-no-other = λ w′ rule. relation-law .exact w w′ k e in-range rule }
+  where
+    w : World
+    w = world-at h t
+
+    first : ℕ
+    first = h .setting .first
+
+    there : k < 8
+    there = ⊎-elim (λ l. l) (λ (ge : 8 ≤ k). absurd (none-holds w (steps k) e NoCore (k, refl, λ z. omega (arith, z .1)))) (cases-lt k 8)
+
+    in-range : In-range (core-at w k .place)
+    in-range = place-in-range first w k (ranged h t) there

@@ -14,3 +14,4 @@ pub mod Marks
 pub mod Promises
 pub mod RefusalLaw
 pub mod Relation
+pub mod StepLaw

@@ -79,6 +79,6 @@ pub record Promises (h : History) : Type 0 where
   pub overtaken : Overtaken-is-told-exactly h
   pub explained : Some-order-explains h
 
--- The promises of every history. No contract names this yet: it is stated here and still to be proved.
+-- The promises of every history.
 abbrev pub Promises-hold : Type 0
 Promises-hold = (h : History) → Promises h

@@ -27,11 +27,12 @@ use Rattle.model.specs.declared.place.Own.the-variants as own
 use Rattle.model.specs.Rules.{same-mark, home, first-entry, entry-after, has-more, next-entry, resume, answer-of, after-last, after-clear-swap}
 use Rattle.model.specs.Step.{cleared-to, settled-to}
 use Rattle.model.specs.Refusals.{is-idle, is-finished}
+use Rattle.model.specs.Plain.{Holds-expected}
 use Rattle.model.proofs.Memory.{Memory, entry, upd, move, put, settled, fresh-pl}
 use Rattle.model.proofs.Facts.{Made, Current, Undecided, Pl-current, Place-ok, Own-ok, Settling-ok, Inv}
 use Rattle.model.proofs.Updates.{upd-same, upd-other}
 use Rattle.model.proofs.Go.{busy, same-mark-eq, next-is}
-use Rattle.model.proofs.Showing.{shown-in, shown-put, shown-settled, shown-cleared, shown-placed, shown-made}
+use Rattle.model.proofs.Showing.{shown-in, value-found, shown-put, shown-settled, shown-cleared, shown-placed, shown-made}
 
 -- What an order of operations has to know of a step: whether it decides an operation, finishes one, or sees a value that differs.
 
@@ -53,15 +54,20 @@ fails (Settle m c k) = false
 abbrev pub Ordinary : Place → Type 0
 Ordinary p = (is-finished p ≡ false) × (fails p ≡ false)
 
+-- of T's entries, i is the first that shows another value than it expects
+pub record Sight (w : Memory) (T : Mark) (i : ℕ) : Type 0 where
+  pub inside : i < length (w .ents (T .core))
+  pub other : Holds-expected (shown-in w) (w .ents (T .core)) i → ⊥
+  pub earlier : Undecided w T → (j : ℕ) → j < i → Holds-expected (shown-in w) (w .ents (T .core)) j
+
 pub data Event (w w′ : Memory) (c : ℕ) : Type 0 where
   ordinary : shown-in w′ ≡ shown-in w → w′ .state ≡ w .state → Ordinary (w′ .place c) → Event w w′ c
   -- a read sees its word plain
   read-done : (i v : ℕ) → w .place c ≡ Look i → w′ .place c ≡ Finished v → shown-in w i ≡ v → shown-in w′ ≡ shown-in w → w′ .state ≡ w .state → Event w w′ c
   -- a core clears the last entry of its own operation
   own-done : (M : Mark) (o : Outcome) → w .own c ≡ own.List M → w .state c ≡ state-of o → w′ .place c ≡ Finished (answer-of o) → shown-in w′ ≡ shown-in w → w′ .state ≡ w .state → Event w w′ c
-  -- Try sees another value than entry i expects
-  differs : (t : Work) (i : ℕ) → w′ .place c ≡ Decide t (outcome.Failed i) → Made w (t .operation)
-      → (Current w (t .operation) → (i < length (w .ents (t .operation .core))) × (shown-in w (entry w (t .operation) i .word) ≡ entry w (t .operation) i .expected → ⊥))
+  -- Try sees another value than entry i expects, while the entries before it, of an undecided operation, show what they expect
+  differs : (t : Work) (i : ℕ) → w′ .place c ≡ Decide t (outcome.Failed i) → Made w (t .operation) → (Current w (t .operation) → Sight w (t .operation) i)
       → shown-in w′ ≡ shown-in w → w′ .state ≡ w .state → Event w w′ c
   -- Decide changes a state
   decides : (t : Work) (o : Outcome) → w .place c ≡ Decide t o → Current w (t .operation) → Undecided w (t .operation)
@@ -144,9 +150,16 @@ stepped-differs w c t e m v inv here s ne =
       owns = refl;
       others = λ k n. upd-other (w .place) c k (Decide t (outcome.Failed (t .index))) n;
       event = differs t (t .index) (upd-same (w .place) c (Decide t (outcome.Failed (t .index)))) (h .0 .made)
-          (λ cur. (let n = h .0 .counted cur in let l = h .0 .inside in omega arith, λ z. ne (shown-differs (h .1 .matches cur) z))) refl refl;
+          (λ cur. record { inside = inside h cur; other = λ z. ne (shown-differs (h .1 .matches cur) z); earlier = before h cur }) refl refl;
     }
   where
+    inside : Place-ok w c (Try t e m) → Current w (t .operation) → t .index < length (w .ents (t .operation .core))
+    inside h cur = let n = h .0 .counted cur in let l = h .0 .inside in omega arith
+
+    before : Place-ok w c (Try t e m) → Current w (t .operation) → Undecided w (t .operation) → (j : ℕ) → j < t .index → Holds-expected (shown-in w) (w .ents (t .operation .core)) j
+    before h cur und j l =
+        rw (h .0 .passed cur und j l, und) (value-found state.Undecided (w .ents (t .operation .core)) j (inv .lists (t .operation .core)) (omega (arith, inside h cur)))
+
     shown-differs : entry w (t .operation) (t .index) ≡ e → shown-in w (entry w (t .operation) (t .index) .word) ≡ entry w (t .operation) (t .index) .expected → v ≡ e .expected
     shown-differs q z = let y : shown-in w (e .word) ≡ e .expected = subst (λ (x : Entry). shown-in w (x .word) ≡ x .expected) q z in rw s at y
 

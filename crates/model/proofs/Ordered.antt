@@ -45,7 +45,7 @@ use Rattle.model.proofs.Facts.{Current, Undecided, Place-ok, Own-ok, Word-ok, 
 use Rattle.model.proofs.Updates.{upd-same, upd-at, upd-other, upd-both, upd-is}
 use Rattle.model.proofs.Stable.{not-undecided}
 use Rattle.model.proofs.Showing.{shown-in, shown-of, shown-says, shown-failed, all-expected, new-stored}
-use Rattle.model.proofs.Events.{fails, Event, Stepped, ordinary, read-done, own-done, differs, decides}
+use Rattle.model.proofs.Events.{fails, Sight, Event, Stepped, ordinary, read-done, own-done, differs, decides}
 use Rattle.model.proofs.Timeline.{Effect, put-deed, put-at}
 use Rattle.model.proofs.Granting.{perform-refused}
 use Rattle.model.proofs.Moments.{world-next}
@@ -194,18 +194,19 @@ module _ (h : History) (t : ℕ) (lt : t < length (h .calls)) (g : Ordered h t) 
     not-finishing n q c m i called fin = both-ways _ n (finishing c (fin .finishing-step) .1)
 
     -- Try sees a value that differs: what it saw is kept for its decision.
-    saw : (w : Work) (i : ℕ) → (Current a (w .operation) → (i < length (a .ents (w .operation .core))) × (values h t (entry a (w .operation) i .word) ≡ entry a (w .operation) i .expected → ⊥))
+    saw : (w : Work) (i : ℕ) → (Current a (w .operation) → Sight a (w .operation) i)
         → Current a (w .operation) → Undecided a (w .operation) → Pending h f (p (w .operation .core)) (t + 1) k a′ w i
     saw w i sight cur und =
-        let act = undecided-active a (w .operation) inv und (omega (arith, sight cur .0)) in
+        let act = undecided-active a (w .operation) inv und (omega (arith, sight cur .inside)) in
         record {
           seen = t;
           earlier = omega arith;
           after-start = g .cores .running (w .operation .core) (active-runs a (w .operation .core) act) .before;
           stepped-then = call-is;
           free = g .ledger .later t (le-refl t);
-          inside = rw (same-ents (w .operation .core)) (sight cur .0);
-          differs = rw (same-ents (w .operation .core)) (sight cur .1);
+          inside = rw (same-ents (w .operation .core)) (sight cur .inside);
+          other = rw (same-ents (w .operation .core)) (sight cur .other);
+          earlier-ones = rw (same-ents (w .operation .core)) (sight cur .earlier und);
         }
 
     -- the read that finishes now is the one that core k runs
@@ -391,7 +392,7 @@ module _ (h : History) (t : ℕ) (lt : t < length (h .calls)) (g : Ordered h t) 
         let d = g .cores .pending k w i here cur und in
         let still : values h (d .seen + 1) ≡ values h (d .seen) = subst (λ (x : Option Deed). Effect x (values h (d .seen)) (values h (d .seen + 1))) (d .free) (g .ledger .effects (d .seen) (d .earlier)) in
         decided-by w (outcome.Failed i) here cur und eq (d .seen) (omega (arith, d .earlier)) (d .after-start) (d .free)
-        (subst (Done (swap-all (a .ents (w .operation .core))) (values h (d .seen)) (i + 1)) (sym still) (fails-at i (d .inside) (d .differs)))
+        (subst (Done (swap-all (a .ents (w .operation .core))) (values h (d .seen)) (i + 1)) (sym still) (fails-at i (d .inside) (d .other)))
         (λ _. ap shown-in eq ∙ shown-failed a (w .operation .core) i und)
         (λ j r n l x q. let s : steps j ≡ steps k = sym x ∙ ap (call-at h) q ∙ d .stepped-then in n cc)
 

@@ -24,7 +24,7 @@ use Rattle.model.specs.declared.place.Own.the-variants as own
 use Rattle.model.specs.Calls.{Call, starts, reads, steps, started-core}
 use Rattle.model.specs.Refusals.{is-finished}
 use Rattle.model.specs.Histories.{History, Called}
-use Rattle.model.specs.Plain.{Deed, Whole}
+use Rattle.model.specs.Plain.{Deed, Whole, Holds-expected}
 use Rattle.model.specs.Promises.{Starts, list, word, Finishes}
 use Rattle.model.proofs.Memory.{Memory, entry, upd, move, fresh-op}
 use Rattle.model.proofs.Facts.{Current, Undecided, Place-ok, Own-ok, Inv}
@@ -68,7 +68,9 @@ pub record Pending (h : History) (f : ℕ → Option Deed) (p t j : ℕ) (a : Me
   pub stepped-then : call-at h seen ≡ steps j
   pub free : f seen ≡ None
   pub inside : i < length (a .ents (w .operation .core))
-  pub differs : values h seen (entry a (w .operation) i .word) ≡ entry a (w .operation) i .expected → ⊥
+  pub other : Holds-expected (values h seen) (a .ents (w .operation .core)) i → ⊥
+  -- the entries before it showed what they expect, so that the entry named is the first that differed
+  pub earlier-ones : (j : ℕ) → j < i → Holds-expected (values h seen) (a .ents (w .operation .core)) j
 
 -- All cores, with the start of each one's operation.
 pub record Cores (h : History) (f : ℕ → Option Deed) (p : ℕ → ℕ) (t : ℕ) (a : Memory) : Type 0 where
@@ -137,7 +139,8 @@ pending-on h f f′ p t j a a′ w i d es free = record {
   stepped-then = d .stepped-then;
   free = free (d .seen) (d .earlier) (d .stepped-then) (d .free);
   inside = rw es (d .inside);
-  differs = rw es (d .differs);
+  other = rw es (d .other);
+  earlier-ones = rw es (d .earlier-ones);
 }
 
 module _ (h : History) (t : ℕ) where

@@ -40,7 +40,7 @@ pub mod MarkPromises
 pub mod Unstuck
 pub mod ShownIs
 pub mod EveryWorld
-pub mod Ledger
+pub mod Linearization
 pub mod Running
 pub mod Answered
 pub mod Ordered

@@ -38,7 +38,7 @@ use Rattle.model.specs.Calls.{Call, starts, reads, steps, collects, started-co
 use Rattle.model.specs.Refusals.{refusal-of, is-idle, is-finished}
 use Rattle.model.specs.Perform.{perform}
 use Rattle.model.specs.Histories.{History, after-calls, opening-of, world-at, Called}
-use Rattle.model.specs.Plain.{Deed, Whole, swap-all, look-at, Done, succeeds, fails as fails-at, sees}
+use Rattle.model.specs.Plain.{Completed, Whole, swap-all, look-at, Done, succeeds, fails as fails-at, sees}
 use Rattle.model.specs.Promises.{Starts, list, word as read-of, Finishes, Decided, Answers, decided, finished}
 use Rattle.model.proofs.Memory.{Memory, view, entry, upd, move, settled, fresh-op, disown}
 use Rattle.model.proofs.Facts.{Current, Undecided, Place-ok, Own-ok, Word-ok, Inv}
@@ -46,7 +46,7 @@ use Rattle.model.proofs.Updates.{upd-same, upd-at, upd-other, upd-both, upd-is
 use Rattle.model.proofs.Stable.{not-undecided}
 use Rattle.model.proofs.Showing.{shown-in, shown-of, shown-says, shown-failed, all-expected, new-stored}
 use Rattle.model.proofs.Events.{fails, Sight, Event, Stepped, ordinary, read-done, own-done, differs, decides}
-use Rattle.model.proofs.Timeline.{Effect, put-deed, put-at}
+use Rattle.model.proofs.Timeline.{Effect, put-completed, put-at}
 use Rattle.model.proofs.Granting.{perform-refused}
 use Rattle.model.proofs.Moments.{world-next}
 use Rattle.model.proofs.InRange.{ranged}
@@ -54,18 +54,18 @@ use Rattle.model.proofs.CallKept.{next-mark}
 use Rattle.model.proofs.Happened.{Happened, looks, list-started, read-started, stepped, collected, looked, refused}
 use Rattle.model.proofs.EveryWorld.{each-core, invariant, happens}
 use Rattle.model.proofs.Answered.{collect-after, one-start}
-use Rattle.model.proofs.Ledger.{memory, values, call-at, called-is, Entered, Ledger, deed-before, ledger-stays, ledger-adds, Told, Covers, Within, within-more, covers-next}
+use Rattle.model.proofs.Linearization.{memory, values, call-at, called-is, Entered, Linearization, completed-before, linearization-stays, linearization-adds, Told, Covers, Within, within-more, covers-next}
 use Rattle.model.proofs.Running.{Started-as, Running, Going, Active, Unanswered, Pending, Cores, one-core, only-start, active-runs, undecided-active, pending-on, cores-go, cores-start}
 
 -- An order of the operations so far, from each call to the next.
 
 pub record Ordered (h : History) (t : ℕ) : Type 0 where
-  pub deeds : ℕ → Option Deed
+  pub completed : ℕ → Option Completed
   -- the start of what each core runs
   pub begun : ℕ → ℕ
-  pub ledger : Ledger h deeds t
-  pub covers : Covers h deeds t
-  pub cores : Cores h deeds begun t (memory h t)
+  pub linearization : Linearization h completed t
+  pub covers : Covers h completed t
+  pub cores : Cores h completed begun t (memory h t)
 
 -- A start shows nothing new: no word holds a mark of an idle core's operation.
 shown-start : (a : Memory) (k : ℕ) (es : List Entry) (o : Own) → Inv a → a .place k ≡ Idle → shown-in (fresh-op a k es o) ≡ shown-in a
@@ -86,8 +86,8 @@ module _ (h : History) (t : ℕ) (lt : t < length (h .calls)) (g : Ordered h t) 
   abbrev a′ : Memory
   a′ = memory h (t + 1)
 
-  abbrev f : ℕ → Option Deed
-  f = g .deeds
+  abbrev f : ℕ → Option Completed
+  f = g .completed
 
   abbrev p : ℕ → ℕ
   p = g .begun
@@ -112,9 +112,9 @@ module _ (h : History) (t : ℕ) (lt : t < length (h .calls)) (g : Ordered h t) 
       → ((j : ℕ) (w : Work) (i : ℕ) → a′ .place j ≡ Decide w (outcome.Failed i) → (a .place j ≡ Decide w (outcome.Failed i)) ⊎ (Current a (w .operation) → Undecided a (w .operation) → Pending h f (p (w .operation .core)) (t + 1) j a′ w i))
       → Ordered h (t + 1)
   goes-on same nums lists states owns before none unfinished unread pends = record {
-    deeds = f;
+    completed = f;
     begun = p;
-    ledger = ledger-stays h f t (g .ledger) same;
+    linearization = linearization-stays h f t (g .linearization) same;
     covers = covers-next h f f t (g .covers) (λ _ _ e. e)
         (λ q c n x l called m d. inr (start-before q c n l called m (λ s. none c _ s), decided-back c n x (ap (λ (z : ℕ → ℕ). z c) nums) (ap (λ (z : ℕ → State). z c) states) d))
         (λ q c n i called fin. absurd (unread q c n i called fin));
@@ -130,15 +130,15 @@ module _ (h : History) (t : ℕ) (lt : t < length (h .calls)) (g : Ordered h t) 
   starts-next : (k : ℕ) (es : List Entry) (o : Own) (pl : Place) → a .place k ≡ Idle → a′ ≡ move (fresh-op a k es o) k pl → fails pl ≡ false → Started-as h t k (a .num k + 1) es o
       → ((j : ℕ) (x : Whole) → Starts h t j x → j ≡ k) → ((j : ℕ) → Called h t (steps j) (Ok 1) → ⊥) → Ordered h (t + 1)
   starts-next k es o pl idle eq plain start only unstepped = record {
-    deeds = f;
+    completed = f;
     begun = upd p k t;
-    ledger = ledger-stays h f t (g .ledger) (ap shown-in eq ∙ shown-start a k es o inv idle);
+    linearization = linearization-stays h f t (g .linearization) (ap shown-in eq ∙ shown-start a k es o inv idle);
     covers = covers-next h f f t (g .covers) (λ _ _ e. e)
         (λ q c n x l called m d. ⊎-elim
         (λ (z : c ≡ k). absurd (not-undecided (d .outcome) (sym (d .state) ∙ ap (λ (y : Memory). y .state c) eq ∙ upd-at (a .state) k c state.Undecided z)))
         (λ (z : c ≡ k → ⊥). inr (start-before q c n l called m (λ s. z (only c _ s)), decided-back c n x (ap (λ (y : Memory). y .num c) eq ∙ upd-other (a .num) k c (a .num k + 1) z) (ap (λ (y : Memory). y .state c) eq ∙ upd-other (a .state) k c state.Undecided z) d)) (cases-eq c k))
         (λ q c n i called fin. absurd (unstepped c (fin .finishing-step)));
-    cores = subst (Cores h f (upd p k t) (t + 1)) (sym eq) (cores-start h t f p a k es o pl (g .cores) (g .ledger) inv start plain only unstepped);
+    cores = subst (Cores h f (upd p k t) (t + 1)) (sym eq) (cores-start h t f p a k es o pl (g .cores) (g .linearization) inv start plain only unstepped);
   }
 
   -- A granted step of core k.
@@ -203,7 +203,7 @@ module _ (h : History) (t : ℕ) (lt : t < length (h .calls)) (g : Ordered h t) 
           earlier = omega arith;
           after-start = g .cores .running (w .operation .core) (active-runs a (w .operation .core) act) .before;
           stepped-then = call-is;
-          free = g .ledger .later t (le-refl t);
+          free = g .linearization .later t (le-refl t);
           inside = rw (same-ents (w .operation .core)) (sight cur .inside);
           other = rw (same-ents (w .operation .core)) (sight cur .other);
           earlier-ones = rw (same-ents (w .operation .core)) (sight cur .earlier und);
@@ -224,8 +224,8 @@ module _ (h : History) (t : ℕ) (lt : t < length (h .calls)) (g : Ordered h t) 
     list-not-read (own.List x) M e s q c n i called z =
         let bad : starts k (s .0) ≡ reads c i = sym (s .1 .call) ∙ ap (call-at h) (sym z) ∙ called .call in absurd (grind arith)
 
-    -- A deed more, of an operation of core c that was under way and is not any more.
-    adds : (c s : ℕ) (d : Deed) → Active a c → (Active a′ c → ⊥) → d .start-of ≡ p c → d .core-of ≡ c → Answers h (d .start-of) (d .core-of) (d .what) (d .answered)
+    -- One more counts as done: the operation of core c, which was under way and is not any more.
+    adds : (c s : ℕ) (d : Completed) → Active a c → (Active a′ c → ⊥) → d .start-of ≡ p c → d .core-of ≡ c → Answers h (d .start-of) (d .core-of) (d .what) (d .answered)
         → s ≤ t → p c < s → f s ≡ None → Effect (Some d) (values h s) (values h (s + 1)) → ((s ≡ t → ⊥) → values h (t + 1) ≡ values h t)
         → ((j : ℕ) → (j ≡ c → ⊥) → a′ .state j ≡ a .state j)
         → ((q c′ n x : ℕ) (l : Entries) → Called h q (starts c′ l) (Ok n) → c′ ≡ c → Decided (world-at h (t + 1)) c′ n x → (q ≡ p c) ⊎ Decided (world-at h t) c′ n x)
@@ -234,9 +234,9 @@ module _ (h : History) (t : ℕ) (lt : t < length (h .calls)) (g : Ordered h t) 
         → ((j : ℕ) → j ≡ c → Undecided a′ (record { core = j; number = 0 }) → Undecided a (record { core = j; number = 0 }))
         → Ordered h (t + 1)
     adds c s d act rest at-start at-core answers le later free done same states its-decided its-read plain apart undecided = record {
-      deeds = f′;
+      completed = f′;
       begun = p;
-      ledger = ledger-adds h f t s d (g .ledger) le free done same
+      linearization = linearization-adds h f t s d (g .linearization) le free done same
           (record {
             answers = answers;
             after-start = omega (arith, at-start);
@@ -244,7 +244,7 @@ module _ (h : History) (t : ℕ) (lt : t < length (h .calls)) (g : Ordered h t) 
                 (λ (z : q < t). absurd (un .unfinished q (omega (arith, fin .later, at-start)) z (subst (λ (x : ℕ). Called h q (steps x) (Ok 1)) at-core (fin .finishing-step))))
                 (λ (z : t ≤ q). omega arith) (cases-lt q t);
           })
-          (λ r e z q. un .no-deed r e z (q ∙ at-start));
+          (λ r e z q. un .not-completed r e z (q ∙ at-start));
       covers = covers-next h f f′ t (g .covers) (within-more f s d free)
           (λ q c′ n x l called m dec. ⊎-elim
           (λ (z : c′ ≡ c). ⊎-elim (λ (e : q ≡ p c). inl (told q e)) (λ y. inr (start-before q c′ n l called m (no-start c′ _), y)) (its-decided q c′ n x l called z dec))
@@ -255,8 +255,8 @@ module _ (h : History) (t : ℕ) (lt : t < length (h .calls)) (g : Ordered h t) 
           no-start unfinished fewer pends;
     }
       where
-        f′ : ℕ → Option Deed
-        f′ = put-deed f s d
+        f′ : ℕ → Option Completed
+        f′ = put-completed f s d
 
         un : Unanswered h f (p c) t c
         un = g .cores .unanswered c act
@@ -264,13 +264,13 @@ module _ (h : History) (t : ℕ) (lt : t < length (h .calls)) (g : Ordered h t) 
         told : (q : ℕ) → q ≡ p c → Told f′ q
         told q e = (s, d, put-at f s d, at-start ∙ sym e)
 
-        fewer : (j : ℕ) → Active a′ j → (r : ℕ) (e : Deed) → f′ r ≡ Some e → e .start-of ≡ p j → f r ≡ Some e
+        fewer : (j : ℕ) → Active a′ j → (r : ℕ) (e : Completed) → f′ r ≡ Some e → e .start-of ≡ p j → f r ≡ Some e
         fewer j z r e y q =
             ⊎-elim
             (λ (u : (r ≡ s) × (Some d ≡ Some e)). let v = u .1 in let w : d ≡ e = cc in
             let o = g .cores .running j (λ x. active-runs a′ j z (same-own j ∙ x)) in
             let m = g .cores .running c (active-runs a c act) in
-            absurd (rest (subst (Active a′) (one-core h (p j) (p c) j c _ _ _ _ _ _ (o .start) (m .start) (sym q ∙ ap (λ (x : Deed). x .start-of) (sym w) ∙ at-start)) z)))
+            absurd (rest (subst (Active a′) (one-core h (p j) (p c) j c _ _ _ _ _ _ (o .start) (m .start) (sym q ∙ ap (λ (x : Completed). x .start-of) (sym w) ∙ at-start)) z)))
             (λ u. u .1) (upd-is f s r (Some d) (Some e) y)
 
         pends : (j : ℕ) (w : Work) (i : ℕ) → a′ .place j ≡ Decide w (outcome.Failed i) → Current a′ (w .operation) → Undecided a′ (w .operation) → Pending h f′ (p (w .operation .core)) (t + 1) j a′ w i
@@ -295,7 +295,7 @@ module _ (h : History) (t : ℕ) (lt : t < length (h .calls)) (g : Ordered h t) 
 
     reads-done : (i v : ℕ) → is-idle (a .place k) ≡ false → a .place k ≡ Look i → a′ .place k ≡ Finished v → values h t i ≡ v → values h (t + 1) ≡ values h t → a′ .state ≡ a .state → Ordered h (t + 1)
     reads-done i v busier here fin saw-v same states =
-        adds k t d act (λ z. true≢false (rw fin at (z .0))) refl refl answers (le-refl t) (run .before) (g .ledger .later t (le-refl t)) done (λ n. absurd (n refl))
+        adds k t d act (λ z. true≢false (rw fin at (z .0))) refl refl answers (le-refl t) (run .before) (g .linearization .later t (le-refl t)) done (λ n. absurd (n refl))
         (λ j _. ap (λ (y : ℕ → State). y j) states)
         (λ q c′ n x l called z dec. inr (decided-back c′ n x (same-num c′) (ap (λ (y : ℕ → State). y c′) states) dec))
         (λ q c′ n x called z. its-start busier q c′ n x called z .1)
@@ -310,7 +310,7 @@ module _ (h : History) (t : ℕ) (lt : t < length (h .calls)) (g : Ordered h t) 
         run : Running h (p k) t k (a .num k) (a .ents k) (a .own k)
         run = g .cores .running k (runs busier)
 
-        d : Deed
+        d : Completed
         d = record { start-of = p k; core-of = k; what = look-at i; answered = v }
 
         answers : Answers h (p k) k (look-at i) v
@@ -376,7 +376,7 @@ module _ (h : History) (t : ℕ) (lt : t < length (h .calls)) (g : Ordered h t) 
     succeeds-next : (w : Work) → a .place k ≡ Decide w outcome.Succeeded → Current a (w .operation) → Undecided a (w .operation)
         → a′ ≡ move (settled a (w .operation .core) state.Succeeded) k (Clear (first-entry (w .operation) (w .count)) outcome.Succeeded clearing.Read) → Ordered h (t + 1)
     succeeds-next w here cur und eq =
-        decided-by w outcome.Succeeded here cur und eq t (le-refl t) (run w outcome.Succeeded here cur und eq .before) (g .ledger .later t (le-refl t))
+        decided-by w outcome.Succeeded here cur und eq t (le-refl t) (run w outcome.Succeeded here cur und eq .before) (g .linearization .later t (le-refl t))
         (subst (Done (swap-all (a .ents (w .operation .core))) (values h t) 0) (sym (ap shown-in eq)) (succeeds (all-expected a (w .operation) inv cur und full) (new-stored a (w .operation) inv cur und full)))
         (λ n. absurd (n refl)) (λ j r n l x q. omega arith)
       where
@@ -390,7 +390,7 @@ module _ (h : History) (t : ℕ) (lt : t < length (h .calls)) (g : Ordered h t) 
         → a′ ≡ move (settled a (w .operation .core) (state.Failed i)) k (Clear (first-entry (w .operation) (w .count)) (outcome.Failed i) clearing.Read) → Ordered h (t + 1)
     fails-next w i here cur und eq =
         let d = g .cores .pending k w i here cur und in
-        let still : values h (d .seen + 1) ≡ values h (d .seen) = subst (λ (x : Option Deed). Effect x (values h (d .seen)) (values h (d .seen + 1))) (d .free) (g .ledger .effects (d .seen) (d .earlier)) in
+        let still : values h (d .seen + 1) ≡ values h (d .seen) = subst (λ (x : Option Completed). Effect x (values h (d .seen)) (values h (d .seen + 1))) (d .free) (g .linearization .effects (d .seen) (d .earlier)) in
         decided-by w (outcome.Failed i) here cur und eq (d .seen) (omega (arith, d .earlier)) (d .after-start) (d .free)
         (subst (Done (swap-all (a .ents (w .operation .core))) (values h (d .seen)) (i + 1)) (sym still) (fails-at i (d .inside) (d .other)))
         (λ _. ap shown-in eq ∙ shown-failed a (w .operation .core) i und)
@@ -473,9 +473,9 @@ opened-idle h k = (each-core h k (λ c. c .own ≡ own.Nothing) (λ _. refl), ea
 ordered-opening : (h : History) → Ordered h 0
 unfolding after-calls
 ordered-opening h = record {
-  deeds = λ _. None;
+  completed = λ _. None;
   begun = λ _. 0;
-  ledger = record { effects = λ s l. absurd (omega arith); later = λ s l. refl; entered = λ s d e. absurd (grind arith); once = λ s r d e x y z. absurd (grind arith) };
+  linearization = record { effects = λ s l. absurd (omega arith); later = λ s l. refl; entered = λ s d e. absurd (grind arith); once = λ s r d e x y z. absurd (grind arith) };
   covers = record { decided-told = λ q c n x u l called m le dec. absurd (omega arith); read-told = λ q c n i u called fin l. absurd (omega arith) };
   cores = record {
     running = λ k ne. absurd (ne (opened-idle h k .0));

@@ -24,14 +24,14 @@ use Rattle.model.specs.declared.place.Own.the-variants as own
 use Rattle.model.specs.Calls.{Call, starts, reads, steps, started-core}
 use Rattle.model.specs.Refusals.{is-finished}
 use Rattle.model.specs.Histories.{History, Called}
-use Rattle.model.specs.Plain.{Deed, Whole, Holds-expected}
+use Rattle.model.specs.Plain.{Completed, Whole, Holds-expected}
 use Rattle.model.specs.Promises.{Starts, list, word, Finishes}
 use Rattle.model.proofs.Memory.{Memory, entry, upd, move, fresh-op}
 use Rattle.model.proofs.Facts.{Current, Undecided, Place-ok, Own-ok, Inv}
 use Rattle.model.proofs.RefusalTests.{decides-finished}
 use Rattle.model.proofs.Updates.{upd-same, upd-at, upd-other}
 use Rattle.model.proofs.Events.{fails}
-use Rattle.model.proofs.Ledger.{memory, values, call-at, Ledger, deed-before}
+use Rattle.model.proofs.Linearization.{memory, values, call-at, Linearization, completed-before}
 
 -- What is known of the operations under way, for an order of them.
 
@@ -55,13 +55,13 @@ Going (own.List M) s = s ≡ state.Undecided
 abbrev pub Active : Memory → ℕ → Type 0
 Active a k = (is-finished (a .place k) ≡ false) × Going (a .own k) (a .state k)
 
--- it has not finished, and has no deed
-pub record Unanswered (h : History) (f : ℕ → Option Deed) (p t k : ℕ) : Type 0 where
+-- it has not finished, and counts as done at no moment
+pub record Unanswered (h : History) (f : ℕ → Option Completed) (p t k : ℕ) : Type 0 where
   pub unfinished : (q : ℕ) → p < q → q < t → Called h q (steps k) (Ok 1) → ⊥
-  pub no-deed : (s : ℕ) (d : Deed) → f s ≡ Some d → d .start-of ≡ p → ⊥
+  pub not-completed : (s : ℕ) (d : Completed) → f s ≡ Some d → d .start-of ≡ p → ⊥
 
--- core j is to decide that the operation of w, started at p, failed at entry i: it saw another value there in a step that has no deed
-pub record Pending (h : History) (f : ℕ → Option Deed) (p t j : ℕ) (a : Memory) (w : Work) (i : ℕ) : Type 0 where
+-- core j is to decide that the operation of w, started at p, failed at entry i: it saw another value there in a step at which nothing counts as done
+pub record Pending (h : History) (f : ℕ → Option Completed) (p t j : ℕ) (a : Memory) (w : Work) (i : ℕ) : Type 0 where
   pub seen : ℕ
   pub earlier : seen < t
   pub after-start : p < seen
@@ -73,7 +73,7 @@ pub record Pending (h : History) (f : ℕ → Option Deed) (p t j : ℕ) (a : Me
   pub earlier-ones : (j : ℕ) → j < i → Holds-expected (values h seen) (a .ents (w .operation .core)) j
 
 -- All cores, with the start of each one's operation.
-pub record Cores (h : History) (f : ℕ → Option Deed) (p : ℕ → ℕ) (t : ℕ) (a : Memory) : Type 0 where
+pub record Cores (h : History) (f : ℕ → Option Completed) (p : ℕ → ℕ) (t : ℕ) (a : Memory) : Type 0 where
   pub running : (k : ℕ) → (a .own k ≡ own.Nothing → ⊥) → Running h (p k) t k (a .num k) (a .ents k) (a .own k)
   pub unanswered : (k : ℕ) → Active a k → Unanswered h f (p k) t k
   pub pending : (j : ℕ) (w : Work) (i : ℕ) → a .place j ≡ Decide w (outcome.Failed i) → Current a (w .operation) → Undecided a (w .operation) → Pending h f (p (w .operation .core)) t j a w i
@@ -130,7 +130,7 @@ undecided-active a T inv und some = (unfinished (a .place (T .core)) (inv .place
     going (own.List M) ok = und
 
 -- What was seen stays seen, as long as its moment stays free.
-pub pending-on : (h : History) (f f′ : ℕ → Option Deed) (p t j : ℕ) (a a′ : Memory) (w : Work) (i : ℕ) → Pending h f p t j a w i → a′ .ents (w .operation .core) ≡ a .ents (w .operation .core)
+pub pending-on : (h : History) (f f′ : ℕ → Option Completed) (p t j : ℕ) (a a′ : Memory) (w : Work) (i : ℕ) → Pending h f p t j a w i → a′ .ents (w .operation .core) ≡ a .ents (w .operation .core)
     → ((s : ℕ) → s < t → call-at h s ≡ steps j → f s ≡ None → f′ s ≡ None) → Pending h f′ p (t + 1) j a′ w i
 pending-on h f f′ p t j a a′ w i d es free = record {
   seen = d .seen;
@@ -151,17 +151,17 @@ module _ (h : History) (t : ℕ) where
     no-later = λ q x l m s. ⊎-elim (λ (z : q < t). r .no-later q x l z s) (λ (z : t ≤ q). let e : q ≡ t = omega arith in none x (subst (λ (u : ℕ). Starts h u k x) e s)) (cases-lt q t);
   }
 
-  longer-unanswered : (f f′ : ℕ → Option Deed) (p k : ℕ) → (Called h t (steps k) (Ok 1) → ⊥) → ((s : ℕ) (d : Deed) → f′ s ≡ Some d → d .start-of ≡ p → f s ≡ Some d) → Unanswered h f p t k → Unanswered h f′ p (t + 1) k
+  longer-unanswered : (f f′ : ℕ → Option Completed) (p k : ℕ) → (Called h t (steps k) (Ok 1) → ⊥) → ((s : ℕ) (d : Completed) → f′ s ≡ Some d → d .start-of ≡ p → f s ≡ Some d) → Unanswered h f p t k → Unanswered h f′ p (t + 1) k
   longer-unanswered f f′ p k none fewer u = record {
     unfinished = λ q l m c. ⊎-elim (λ (z : q < t). u .unfinished q l z c) (λ (z : t ≤ q). let e : q ≡ t = omega arith in none (subst (λ (v : ℕ). Called h v (steps k) (Ok 1)) e c)) (cases-lt q t);
-    no-deed = λ s d e q. u .no-deed s d (fewer s d e q) q;
+    not-completed = λ s d e q. u .not-completed s d (fewer s d e q) q;
   }
 
   -- A call that starts nothing.
-  pub cores-go : (f f′ : ℕ → Option Deed) (p : ℕ → ℕ) (a a′ : Memory) → Cores h f p t a → a′ .num ≡ a .num → a′ .ents ≡ a .ents
+  pub cores-go : (f f′ : ℕ → Option Completed) (p : ℕ → ℕ) (a a′ : Memory) → Cores h f p t a → a′ .num ≡ a .num → a′ .ents ≡ a .ents
       → ((k : ℕ) → (a′ .own k ≡ own.Nothing → ⊥) → a′ .own k ≡ a .own k) → ((k : ℕ) → Active a′ k → Active a k)
       → ((k : ℕ) (x : Whole) → Starts h t k x → ⊥) → ((k : ℕ) → Active a′ k → Called h t (steps k) (Ok 1) → ⊥)
-      → ((k : ℕ) → Active a′ k → (s : ℕ) (d : Deed) → f′ s ≡ Some d → d .start-of ≡ p k → f s ≡ Some d)
+      → ((k : ℕ) → Active a′ k → (s : ℕ) (d : Completed) → f′ s ≡ Some d → d .start-of ≡ p k → f s ≡ Some d)
       → ((j : ℕ) (w : Work) (i : ℕ) → a′ .place j ≡ Decide w (outcome.Failed i) → Current a′ (w .operation) → Undecided a′ (w .operation) → Pending h f′ (p (w .operation .core)) (t + 1) j a′ w i)
       → Cores h f′ p (t + 1) a′
   cores-go f f′ p a a′ g nums lists owns active none unfinished fewer pends = record {
@@ -171,9 +171,9 @@ module _ (h : History) (t : ℕ) where
   }
 
   -- A start.
-  pub cores-start : (f : ℕ → Option Deed) (p : ℕ → ℕ) (a : Memory) (k : ℕ) (es : List Entry) (o : Own) (pl : Place) → Cores h f p t a → Ledger h f t → Inv a → Started-as h t k (a .num k + 1) es o → fails pl ≡ false
+  pub cores-start : (f : ℕ → Option Completed) (p : ℕ → ℕ) (a : Memory) (k : ℕ) (es : List Entry) (o : Own) (pl : Place) → Cores h f p t a → Linearization h f t → Inv a → Started-as h t k (a .num k + 1) es o → fails pl ≡ false
       → ((j : ℕ) (x : Whole) → Starts h t j x → j ≡ k) → ((j : ℕ) → Called h t (steps j) (Ok 1) → ⊥) → Cores h f (upd p k t) (t + 1) (move (fresh-op a k es o) k pl)
-  cores-start f p a k es o pl g ledger inv start plain only unfinished = record {
+  cores-start f p a k es o pl g linearization inv start plain only unfinished = record {
     running = λ j ne. ⊎-elim
         (λ (q : j ≡ k). subst (λ (x : ℕ). Running h (upd p k t x) (t + 1) x (a′ .num x) (a′ .ents x) (a′ .own x)) (sym q) newest)
         (λ (n : j ≡ k → ⊥). rw (upd-other p k j t n, upd-other (a .num) k j (a .num k + 1) n, upd-other (a .ents) k j es n, upd-other (a .own) k j o n)
@@ -198,7 +198,7 @@ module _ (h : History) (t : ℕ) where
       fresh : Unanswered h f (upd p k t k) (t + 1) k
       fresh =
           rw (upd-same p k t)
-          (record { unfinished = λ q l m c. absurd (omega arith); no-deed = λ s d e q. absurd (omega (arith, ledger .entered s d e .after-start, deed-before h f t ledger s d e, q)) })
+          (record { unfinished = λ q l m c. absurd (omega arith); not-completed = λ s d e q. absurd (omega (arith, linearization .entered s d e .after-start, completed-before h f t linearization s d e, q)) })
 
       still : (j : ℕ) (w : Work) (i : ℕ) → a .place j ≡ Decide w (outcome.Failed i) → Current a′ (w .operation) → Undecided a′ (w .operation) → Pending h f (upd p k t (w .operation .core)) (t + 1) j a′ w i
       still j w i e cur und =

@@ -1,7 +1,7 @@
 use mathlib.Core.Path.{_≡_}
 use mathlib.Core.List.{List, [], _∷_}
 use Prim.Native.Nat.{ℕ, _+_, _<_}
-use lib.ListN.{length}
+use lib.ListN.{length, getD}
 use Rattle.entries.specs.declared.Entry.{Entry}
 use Rattle.entries.specs.Lists.{entry-at}
 
@@ -30,17 +30,21 @@ pub data Done : Whole → (ℕ → ℕ) → ℕ → (ℕ → ℕ) → Type 0 whe
   sees : {i : ℕ} {v : ℕ → ℕ} → Done (look-at i) v (v i) v
 
 -- an operation with the answer that it gave
-pub record Deed : Type 0 where
+pub record Completed : Type 0 where
   -- the position of its accepted start
   pub start-of : ℕ
   pub core-of : ℕ
   pub what : Whole
   pub answered : ℕ
 
-abbrev pub no-deed : Deed
-no-deed = record { start-of = 0; core-of = 0; what = look-at 0; answered = 0 }
+abbrev pub no-operation : Completed
+no-operation = record { start-of = 0; core-of = 0; what = look-at 0; answered = 0 }
 
--- the deeds done whole, one by one, lead from the values v to v′
-pub data Replays : List Deed → (ℕ → ℕ) → (ℕ → ℕ) → Type 0 where
+-- the operation at place j of an order
+abbrev pub nth : List Completed → ℕ → Completed
+nth order j = getD order j no-operation
+
+-- these operations done whole, one by one, lead from the values v to v′
+pub data Replays : List Completed → (ℕ → ℕ) → (ℕ → ℕ) → Type 0 where
   all-done : {v : ℕ → ℕ} → Replays [] v v
-  then-done : {d : Deed} {ds : List Deed} {v u v′ : ℕ → ℕ} → Done (d .what) v (d .answered) u → Replays ds u v′ → Replays (d ∷ ds) v v′
+  then-done : {d : Completed} {ds : List Completed} {v u v′ : ℕ → ℕ} → Done (d .what) v (d .answered) u → Replays ds u v′ → Replays (d ∷ ds) v v′

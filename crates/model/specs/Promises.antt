@@ -1,7 +1,7 @@
 use mathlib.Core.Path.{_≡_}
 use mathlib.Core.List.{List}
 use Prim.Native.Nat.{ℕ, _+_, _<_, _≤_}
-use lib.ListN.{length, getD}
+use lib.ListN.{length}
 use Rattle.std.specs.declared.result.Result.the-variants.{Ok}
 use Rattle.entries.specs.declared.list.Entries.{Entries}
 use Rattle.entries.specs.Listed.{listed}
@@ -13,7 +13,7 @@ use Rattle.model.specs.Shown.{shown-value}
 use Rattle.model.specs.Calls.{Call, starts, reads, steps, collects}
 use Rattle.model.specs.Perform.{perform}
 use Rattle.model.specs.Histories.{History, opening-of, world-at, world-of, Called}
-use Rattle.model.specs.Plain.{Whole, swap-all, look-at, Deed, no-deed, Replays}
+use Rattle.model.specs.Plain.{Whole, swap-all, look-at, Completed, nth, Replays}
 use Rattle.model.specs.Marks.{Marked, Found, Creates, Overtaken-at, Answers-overtaken, Alters-nothing}
 
 -- The promises, for every history. They speak of the calls, their answers and the worlds between them.
@@ -62,15 +62,15 @@ pub record Overtaken-is-told-exactly (h : History) : Type 0 where
 
 -- Third: some order of whole operations explains the run.
 pub record Some-order-explains (h : History) : Type 0 where
-  pub order : List Deed
+  pub order : List Completed
   -- it holds exactly the decided k-CASes and the finished reads, each with the machine's answer, each once
   pub holds-only : (j : ℕ) → j < length order
-      → Answers h (getD order j no-deed .start-of) (getD order j no-deed .core-of) (getD order j no-deed .what) (getD order j no-deed .answered)
-  pub holds-all : (p c a : ℕ) (o : Whole) → Answers h p c o a → (j : ℕ) × (j < length order) × (getD order j no-deed .start-of ≡ p)
-  pub each-once : (i j : ℕ) → i < length order → j < length order → getD order i no-deed .start-of ≡ getD order j no-deed .start-of → i ≡ j
+      → Answers h (nth order j .start-of) (nth order j .core-of) (nth order j .what) (nth order j .answered)
+  pub holds-all : (p c a : ℕ) (o : Whole) → Answers h p c o a → (j : ℕ) × (j < length order) × (nth order j .start-of ≡ p)
+  pub each-once : (i j : ℕ) → i < length order → j < length order → nth order i .start-of ≡ nth order j .start-of → i ≡ j
   -- one that finished before another was started stands ahead of it
-  pub in-time : (i j t : ℕ) → i < length order → j < length order → Finishes h (getD order i no-deed .start-of) (getD order i no-deed .core-of) t
-      → t < getD order j no-deed .start-of → i < j
+  pub in-time : (i j t : ℕ) → i < length order → j < length order → Finishes h (nth order i .start-of) (nth order i .core-of) t
+      → t < nth order j .start-of → i < j
   -- done whole on the opened words in that order, each answers as in the machine, and they leave every word at its shown value
   pub replays : Replays order (shown-value (opening-of h)) (shown-value (world-of h))
 

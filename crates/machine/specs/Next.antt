@@ -6,15 +6,15 @@ use Rattle.entries.specs.declared.Entry.{Entry}
 use Rattle.descriptor.specs.declared.contents.State.{State}
 use Rattle.descriptor.specs.declared.contents.Outcome.{Outcome}
 use Rattle.descriptor.specs.declared.contents.Placing.{Placing}
-use Rattle.model.specs.declared.place.Place.{Place}
-use Rattle.model.specs.declared.place.Place.the-variants.{Idle, Finished, Look, Begin, Fetch, Make, Try, Decide, Clear, Settle}
-use Rattle.model.specs.declared.place.Clearing.{Clearing}
-use Rattle.model.specs.declared.place.Clearing.the-variants as clearing
-use Rattle.model.specs.declared.place.Settling.{Settling}
-use Rattle.model.specs.declared.place.Settling.the-variants as settling
-use Rattle.model.specs.declared.place.Then.{Then}
-use Rattle.model.specs.declared.place.Own.{Own}
-use Rattle.model.specs.declared.place.Work.{Work}
+use Rattle.cores.specs.declared.place.Place.{Place}
+use Rattle.cores.specs.declared.place.Place.the-variants.{Idle, Finished, Look, Begin, Fetch, Make, Try, Decide, Clear, Settle}
+use Rattle.cores.specs.declared.place.Clearing.{Clearing}
+use Rattle.cores.specs.declared.place.Clearing.the-variants as clearing
+use Rattle.cores.specs.declared.place.Settling.{Settling}
+use Rattle.cores.specs.declared.place.Settling.the-variants as settling
+use Rattle.cores.specs.declared.place.Then.{Then}
+use Rattle.cores.specs.declared.place.Own.{Own}
+use Rattle.cores.specs.declared.place.Work.{Work}
 use Rattle.model.specs.Rules.{home, after-look, after-begin, after-try, after-decide, outcome-after, after-clear-load, after-clear-swap, resume, is-undecided}
 use Rattle.machine.specs.declared.seen.Seen.{Seen}
 use Rattle.machine.specs.declared.seen.Seen.the-variants as seen

@@ -6,12 +6,12 @@ use super::seen::Seen;
 use descriptor::Outcome;
 use descriptor::State;
 use entries::Entry;
-use model::place::Clearing;
-use model::place::Own;
-use model::place::Place;
-use model::place::Settling;
-use model::place::Then;
-use model::place::Work;
+use cores::place::Clearing;
+use cores::place::Own;
+use cores::place::Place;
+use cores::place::Settling;
+use cores::place::Then;
+use cores::place::Work;
 use word::Mark;
 use word::Word;
 

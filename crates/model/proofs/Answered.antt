@@ -14,12 +14,12 @@ use Rattle.descriptor.specs.declared.Descriptor.{Descriptor}
 use Rattle.descriptor.specs.declared.contents.Operation.{Operation}
 use Rattle.descriptor.specs.Descriptors.{last-number}
 use Rattle.descriptor.specs.Contents.{undecided}
-use Rattle.model.specs.declared.place.Place.the-variants.{Finished}
-use Rattle.model.specs.declared.place.Own.{Own}
-use Rattle.model.specs.declared.place.Own.the-variants as own
-use Rattle.model.specs.declared.table.Core.{Core}
-use Rattle.model.specs.declared.table.Refusal.{Refusal}
-use Rattle.model.specs.declared.table.Refusal.the-variants.{NoCore, Halted, UsedUp}
+use Rattle.cores.specs.declared.place.Place.the-variants.{Finished}
+use Rattle.cores.specs.declared.place.Own.{Own}
+use Rattle.cores.specs.declared.place.Own.the-variants as own
+use Rattle.cores.specs.declared.table.Core.{Core}
+use Rattle.cores.specs.declared.table.Refusal.{Refusal}
+use Rattle.cores.specs.declared.table.Refusal.the-variants.{NoCore, Halted, UsedUp}
 use Rattle.model.specs.World.{World, new-core, core-at, with-core}
 use Rattle.model.specs.Step.{Change, nothing, swaps, decides, makes, step-change, change-world, step-world}
 use Rattle.model.specs.Calls.{Call, starts, reads, steps, collects, halts, shows, raws, opens, core-of, started-core}

@@ -14,9 +14,9 @@ use Rattle.entries.specs.declared.Entry.{Entry}
 use Rattle.descriptor.specs.declared.contents.State.{State}
 use Rattle.descriptor.specs.declared.contents.State.the-variants as state
 use Rattle.descriptor.specs.declared.contents.Placing.{Placing}
-use Rattle.model.specs.declared.place.Place.{Place}
-use Rattle.model.specs.declared.place.Place.the-variants.{Idle}
-use Rattle.model.specs.declared.place.Own.{Own}
+use Rattle.cores.specs.declared.place.Place.{Place}
+use Rattle.cores.specs.declared.place.Place.the-variants.{Idle}
+use Rattle.cores.specs.declared.place.Own.{Own}
 use Rattle.model.proofs.Memory.{Memory, entry, upd, move, put, settled, fresh-pl, fresh-op}
 use Rattle.model.proofs.Facts.{Made, Current, Undecided, Pl-made, Pl-current, wants, places, past, due, Unplaced, Live, Live-in, Rely}
 use Rattle.model.proofs.Updates.{upd-map, upd-at, upd-other, upd-both, upd-is}

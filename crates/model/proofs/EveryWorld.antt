@@ -15,9 +15,9 @@ use Rattle.word.specs.declared.Word.{Word}
 use Rattle.word.specs.declared.Word.the-variants as word
 use Rattle.word.specs.Word.{reading-of}
 use Rattle.descriptor.specs.declared.contents.State.the-variants as state
-use Rattle.model.specs.declared.place.Place.the-variants.{Idle}
-use Rattle.model.specs.declared.place.Own.the-variants as own
-use Rattle.model.specs.declared.table.Core.{Core}
+use Rattle.cores.specs.declared.place.Place.the-variants.{Idle}
+use Rattle.cores.specs.declared.place.Own.the-variants as own
+use Rattle.cores.specs.declared.table.Core.{Core}
 use Rattle.model.specs.World.{World, new-core, core-at}
 use Rattle.model.specs.Shown.{entries-of}
 use Rattle.model.specs.Calls.{Call, steps, opens}
@@ -26,7 +26,7 @@ use Rattle.model.specs.Perform.{perform, closed-table}
 use Rattle.model.specs.Histories.{History, after-calls, opening-of, world-at, world-of}
 use Rattle.model.specs.Relation.{In-range}
 use Rattle.model.specs.StepLaw.{Steps-follow-rules}
-use Rattle.model.specs.declared.table.Refusal.the-variants.{NoCore}
+use Rattle.cores.specs.declared.table.Refusal.the-variants.{NoCore}
 use Rattle.model.proofs.RefusalTable.{none-holds}
 use Rattle.model.proofs.RuleComplete.{relation-law}
 use Rattle.model.proofs.Memory.{Memory, view}

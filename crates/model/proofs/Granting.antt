@@ -13,8 +13,8 @@ use Rattle.std.specs.declared.result.Result.the-variants.{Err}
 use Rattle.word.specs.Word.{reading-of}
 use Rattle.entries.specs.declared.list.Entries.{Entries}
 use Rattle.descriptor.specs.Descriptors.{last-number}
-use Rattle.model.specs.declared.table.Refusal.{Refusal}
-use Rattle.model.specs.declared.table.Refusal.the-variants.{UsedUp}
+use Rattle.cores.specs.declared.table.Refusal.{Refusal}
+use Rattle.cores.specs.declared.table.Refusal.the-variants.{UsedUp}
 use Rattle.model.specs.World.{World, core-at}
 use Rattle.model.specs.Calls.{Call, starts, steps, collects, words-of}
 use Rattle.model.specs.Refusals.{Row, first-match, some-of, refusal-of, is-idle, is-finished, is-making, is-plain, has-right, first-tagged}

@@ -14,12 +14,12 @@ use Rattle.word.specs.declared.Mark.{Mark}
 use Rattle.entries.specs.declared.list.Entries.{Entries}
 use Rattle.entries.specs.Listed.{listed}
 use Rattle.descriptor.specs.Descriptors.{last-number}
-use Rattle.model.specs.declared.place.Place.{Place}
-use Rattle.model.specs.declared.place.Place.the-variants.{Idle, Finished, Look, Begin}
-use Rattle.model.specs.declared.place.Own.{Own}
-use Rattle.model.specs.declared.place.Own.the-variants as own
-use Rattle.model.specs.declared.table.Refusal.{Refusal}
-use Rattle.model.specs.declared.table.Refusal.the-variants.{Open, NoCore, Busy, AtRest, UsedUp, NoAnswer}
+use Rattle.cores.specs.declared.place.Place.{Place}
+use Rattle.cores.specs.declared.place.Place.the-variants.{Idle, Finished, Look, Begin}
+use Rattle.cores.specs.declared.place.Own.{Own}
+use Rattle.cores.specs.declared.place.Own.the-variants as own
+use Rattle.cores.specs.declared.table.Refusal.{Refusal}
+use Rattle.cores.specs.declared.table.Refusal.the-variants.{Open, NoCore, Busy, AtRest, UsedUp, NoAnswer}
 use Rattle.model.specs.World.{World, core-at, with-core}
 use Rattle.model.specs.Calls.{Call, starts, reads, steps, collects, halts, shows, raws, opens, core-of}
 use Rattle.model.specs.Refusals.{refusal-of, is-idle, is-finished}

@@ -10,7 +10,7 @@ use Rattle.std.specs.declared.result.Result.{Result}
 use Rattle.std.specs.declared.result.Result.the-variants.{Ok, Err}
 use Rattle.std.proofs.shelf.Tests.{cases-lt, cases-eq}
 use Rattle.entries.specs.declared.list.Entries.{Entries}
-use Rattle.model.specs.declared.table.Refusal.{Refusal}
+use Rattle.cores.specs.declared.table.Refusal.{Refusal}
 use Rattle.model.specs.Calls.{Call, starts, reads, steps}
 use Rattle.model.specs.Perform.{perform}
 use Rattle.model.specs.Histories.{History, world-at, Called}

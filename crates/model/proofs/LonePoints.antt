@@ -22,10 +22,10 @@ use Rattle.descriptor.specs.declared.contents.State.the-variants as state
 use Rattle.descriptor.specs.declared.contents.Outcome.the-variants as outcome
 use Rattle.descriptor.specs.declared.contents.Placing.{Placing}
 use Rattle.descriptor.specs.Descriptors.{last-number}
-use Rattle.model.specs.declared.place.Place.the-variants.{Begin, Fetch, Make, Decide}
-use Rattle.model.specs.declared.table.Core.{Core}
-use Rattle.model.specs.declared.table.Setting.{Setting}
-use Rattle.model.specs.declared.table.Refusal.the-variants.{UsedUp, NoRight}
+use Rattle.cores.specs.declared.place.Place.the-variants.{Begin, Fetch, Make, Decide}
+use Rattle.cores.specs.declared.table.Core.{Core}
+use Rattle.cores.specs.declared.table.Setting.{Setting}
+use Rattle.cores.specs.declared.table.Refusal.the-variants.{UsedUp, NoRight}
 use Rattle.model.specs.World.{World}
 use Rattle.model.specs.Calls.{starts, steps, collects}
 use Rattle.model.specs.Refusals.{refusal-of, is-plain, is-idle, is-finished, is-making}

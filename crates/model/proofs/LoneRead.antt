@@ -13,12 +13,12 @@ use Rattle.word.specs.Word.{reading-of}
 use Rattle.word.proofs.Readings.{written-back}
 use Rattle.entries.specs.declared.list.Entries.{Entries}
 use Rattle.descriptor.specs.Contents.{undecided}
-use Rattle.model.specs.declared.place.Place.{Place}
-use Rattle.model.specs.declared.place.Place.the-variants.{Finished, Look}
-use Rattle.model.specs.declared.place.Own.the-variants as own
-use Rattle.model.specs.declared.table.Core.{Core}
-use Rattle.model.specs.declared.table.Setting.{Setting}
-use Rattle.model.specs.declared.table.Refusal.the-variants.{UsedUp}
+use Rattle.cores.specs.declared.place.Place.{Place}
+use Rattle.cores.specs.declared.place.Place.the-variants.{Finished, Look}
+use Rattle.cores.specs.declared.place.Own.the-variants as own
+use Rattle.cores.specs.declared.table.Core.{Core}
+use Rattle.cores.specs.declared.table.Setting.{Setting}
+use Rattle.cores.specs.declared.table.Refusal.the-variants.{UsedUp}
 use Rattle.model.specs.World.{World, core-at, with-place}
 use Rattle.model.specs.Rules.{by-sight, after-look}
 use Rattle.model.specs.Step.{arrive}

@@ -21,11 +21,11 @@ use Rattle.descriptor.specs.declared.contents.Outcome.{Outcome}
 use Rattle.descriptor.specs.declared.contents.Placing.{Placing}
 use Rattle.descriptor.specs.Descriptors.{last-number, created, changed, reading}
 use Rattle.descriptor.specs.Contents.{decided, with-outcome}
-use Rattle.model.specs.declared.place.Work.{Work}
-use Rattle.model.specs.declared.place.Place.{Place}
-use Rattle.model.specs.declared.place.Own.the-variants as own
-use Rattle.model.specs.declared.table.Core.{Core}
-use Rattle.model.specs.declared.table.Table.{Table}
+use Rattle.cores.specs.declared.place.Work.{Work}
+use Rattle.cores.specs.declared.place.Place.{Place}
+use Rattle.cores.specs.declared.place.Own.the-variants as own
+use Rattle.cores.specs.declared.table.Core.{Core}
+use Rattle.cores.specs.declared.table.Table.{Table}
 use Rattle.model.specs.World.{World, new-core, core-at, operation-at, placing-at, with-cores, with-core, with-place, with-operation, with-placing}
 use Rattle.model.specs.Step.{makes, decides, change-world, step-change, step-place, arrive}
 use Rattle.model.specs.Calls.{steps, collects}

@@ -23,11 +23,11 @@ use Rattle.descriptor.specs.declared.contents.Placing.{Placing}
 use Rattle.descriptor.specs.declared.contents.State.the-variants as state
 use Rattle.descriptor.specs.Descriptors.{last-number}
 use Rattle.descriptor.specs.Contents.{undecided}
-use Rattle.model.specs.declared.place.Place.the-variants.{Begin}
-use Rattle.model.specs.declared.place.Own.{Own}
-use Rattle.model.specs.declared.place.Own.the-variants as own
-use Rattle.model.specs.declared.table.Core.{Core}
-use Rattle.model.specs.declared.table.Setting.{Setting}
+use Rattle.cores.specs.declared.place.Place.the-variants.{Begin}
+use Rattle.cores.specs.declared.place.Own.{Own}
+use Rattle.cores.specs.declared.place.Own.the-variants as own
+use Rattle.cores.specs.declared.table.Core.{Core}
+use Rattle.cores.specs.declared.table.Setting.{Setting}
 use Rattle.model.specs.World.{new-core, core-at, with-core}
 use Rattle.model.specs.Rules.{home}
 use Rattle.model.specs.Calls.{starts, opens}

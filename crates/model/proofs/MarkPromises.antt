@@ -11,12 +11,12 @@ use Rattle.std.proofs.shelf.Tests.{eq-eqb, cond-true, cases-lt}
 use Rattle.descriptor.specs.declared.Descriptor.{Descriptor}
 use Rattle.descriptor.specs.Descriptors.{reading}
 use Rattle.descriptor.proofs.Laws.{laws}
-use Rattle.model.specs.declared.place.Then.{Then}
-use Rattle.model.specs.declared.place.Then.the-variants as then
-use Rattle.model.specs.declared.place.Settling.{Settling}
-use Rattle.model.specs.declared.place.Settling.the-variants as settling
-use Rattle.model.specs.declared.place.Place.{Place}
-use Rattle.model.specs.declared.place.Place.the-variants.{Idle, Finished, Look, Begin, Fetch, Make, Try, Decide, Clear, Settle}
+use Rattle.cores.specs.declared.place.Then.{Then}
+use Rattle.cores.specs.declared.place.Then.the-variants as then
+use Rattle.cores.specs.declared.place.Settling.{Settling}
+use Rattle.cores.specs.declared.place.Settling.the-variants as settling
+use Rattle.cores.specs.declared.place.Place.{Place}
+use Rattle.cores.specs.declared.place.Place.the-variants.{Idle, Finished, Look, Begin, Fetch, Make, Try, Decide, Clear, Settle}
 use Rattle.model.specs.World.{World, core-at}
 use Rattle.model.specs.Histories.{History, after-calls, world-at}
 use Rattle.model.specs.Marks.{Marked, placing, operation, mark-of, as-word, marks-in-then, marks-in-settling, marks-in, Found, in-word, in-place, own-operation, in-descriptor, last-of, Creates, Same-descriptor, placings, operations, Overtaken-at, Answers-overtaken, Alters-nothing}

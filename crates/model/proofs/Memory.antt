@@ -12,8 +12,8 @@ use Rattle.entries.specs.Lists.{entry-at}
 use Rattle.descriptor.specs.declared.contents.State.{State}
 use Rattle.descriptor.specs.declared.contents.State.the-variants as state
 use Rattle.descriptor.specs.declared.contents.Placing.{Placing}
-use Rattle.model.specs.declared.place.Place.{Place}
-use Rattle.model.specs.declared.place.Own.{Own}
+use Rattle.cores.specs.declared.place.Place.{Place}
+use Rattle.cores.specs.declared.place.Own.{Own}
 use Rattle.model.specs.World.{World, core-at}
 use Rattle.model.specs.Shown.{entries-of}
 

@@ -14,8 +14,8 @@ use Rattle.entries.specs.declared.Entry.{Entry}
 use Rattle.entries.specs.Lists.{Lawful, entry-at, lawful}
 use Rattle.entries.specs.Listed.{filling}
 use Rattle.entries.proofs.Law.{decides-lawful}
-use Rattle.model.specs.declared.table.Setting.{Setting}
-use Rattle.model.specs.declared.table.Refusal.the-variants.{Tagged}
+use Rattle.cores.specs.declared.table.Setting.{Setting}
+use Rattle.cores.specs.declared.table.Refusal.the-variants.{Tagged}
 use Rattle.model.specs.Calls.{opens}
 use Rattle.model.specs.Refusals.{refusal-of, setting-fits, first-match, first-tagged}
 use Rattle.model.specs.Perform.{Performed}

@@ -15,8 +15,8 @@ use Rattle.std.specs.declared.option.Option.{Option}
 use Rattle.std.specs.declared.option.Option.the-variants.{Some, None}
 use Rattle.std.specs.declared.result.Result.the-variants.{Ok, Err}
 use Rattle.std.proofs.shelf.Tests.{and-parts, and-from}
-use Rattle.model.specs.declared.table.Refusal.{Refusal}
-use Rattle.model.specs.declared.table.Refusal.the-variants.{Closed, Open, Setting as Bad-setting, Tagged, NoCore, Halted, Busy, AtRest, List as Bad-list, NoWord, NoRight, UsedUp, NoAnswer, File}
+use Rattle.cores.specs.declared.table.Refusal.{Refusal}
+use Rattle.cores.specs.declared.table.Refusal.the-variants.{Closed, Open, Setting as Bad-setting, Tagged, NoCore, Halted, Busy, AtRest, List as Bad-list, NoWord, NoRight, UsedUp, NoAnswer, File}
 use Rattle.model.specs.World.{World, core-at}
 use Rattle.model.specs.Calls.{Call, starts, reads, steps, collects, halts, shows, raws, opens, core-of, words-of, started-core, stepped-core, collected-core, setting-of}
 use Rattle.model.specs.Refusals.{Row, number-of, table-for, first-match, refusal-of, first-tagged, tagged-at, some-of, if-there, setting-fits, has-right, is-idle, is-finished, is-making}

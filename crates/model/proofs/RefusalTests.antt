@@ -17,9 +17,9 @@ use Rattle.std.proofs.shelf.Lists.{getD-default}
 use Rattle.word.specs.declared.Word.{Word}
 use Rattle.word.specs.declared.Word.the-variants as word
 use Rattle.word.specs.Word.{reading-of}
-use Rattle.model.specs.declared.place.Place.{Place}
-use Rattle.model.specs.declared.place.Place.the-variants.{Idle, Finished, Look, Begin, Fetch, Make, Try, Decide, Clear, Settle}
-use Rattle.model.specs.declared.table.Setting.{Setting}
+use Rattle.cores.specs.declared.place.Place.{Place}
+use Rattle.cores.specs.declared.place.Place.the-variants.{Idle, Finished, Look, Begin, Fetch, Make, Try, Decide, Clear, Settle}
+use Rattle.cores.specs.declared.table.Setting.{Setting}
 use Rattle.model.specs.Calls.{Call, words-of}
 use Rattle.model.specs.Refusals.{is-idle, is-finished, is-making, is-plain, first-tagged, some-of, if-there, setting-fits}
 use Rattle.model.specs.RefusalLaw.{Fits, There, Is-plain, Is-finished, Is-making, Some-word}

@@ -18,14 +18,14 @@ use Rattle.descriptor.specs.declared.contents.Outcome.the-variants as outcome
 use Rattle.descriptor.specs.declared.contents.Placing.{Placing}
 use Rattle.descriptor.specs.Descriptors.{last-number}
 use Rattle.descriptor.specs.Contents.{entry-in}
-use Rattle.model.specs.declared.place.Work.{Work}
-use Rattle.model.specs.declared.place.Then.{Then}
-use Rattle.model.specs.declared.place.Clearing.the-variants as clearing
-use Rattle.model.specs.declared.place.Settling.the-variants as settling
-use Rattle.model.specs.declared.place.Place.{Place}
-use Rattle.model.specs.declared.place.Place.the-variants.{Idle, Finished, Look, Begin, Fetch, Make, Try, Decide, Clear, Settle}
-use Rattle.model.specs.declared.table.Refusal.{Refusal}
-use Rattle.model.specs.declared.table.Refusal.the-variants.{AtRest, UsedUp}
+use Rattle.cores.specs.declared.place.Work.{Work}
+use Rattle.cores.specs.declared.place.Then.{Then}
+use Rattle.cores.specs.declared.place.Clearing.the-variants as clearing
+use Rattle.cores.specs.declared.place.Settling.the-variants as settling
+use Rattle.cores.specs.declared.place.Place.{Place}
+use Rattle.cores.specs.declared.place.Place.the-variants.{Idle, Finished, Look, Begin, Fetch, Make, Try, Decide, Clear, Settle}
+use Rattle.cores.specs.declared.table.Refusal.{Refusal}
+use Rattle.cores.specs.declared.table.Refusal.the-variants.{AtRest, UsedUp}
 use Rattle.model.specs.World.{World, core-at}
 use Rattle.model.specs.Step.{step-world}
 use Rattle.model.specs.Calls.{steps}

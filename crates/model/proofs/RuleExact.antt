@@ -25,12 +25,12 @@ use Rattle.descriptor.specs.declared.contents.Outcome.the-variants as outcome
 use Rattle.descriptor.specs.declared.contents.Placing.{Placing}
 use Rattle.descriptor.specs.Descriptors.{last-number, changed}
 use Rattle.descriptor.specs.Contents.{count-of, entry-in, state-of, decided, with-outcome}
-use Rattle.model.specs.declared.place.Work.{Work}
-use Rattle.model.specs.declared.place.Clearing.the-variants as clearing
-use Rattle.model.specs.declared.place.Settling.the-variants as settling
-use Rattle.model.specs.declared.place.Place.{Place}
-use Rattle.model.specs.declared.place.Place.the-variants.{Look, Fetch, Make, Try, Clear, Settle}
-use Rattle.model.specs.declared.table.Core.{Core}
+use Rattle.cores.specs.declared.place.Work.{Work}
+use Rattle.cores.specs.declared.place.Clearing.the-variants as clearing
+use Rattle.cores.specs.declared.place.Settling.the-variants as settling
+use Rattle.cores.specs.declared.place.Place.{Place}
+use Rattle.cores.specs.declared.place.Place.the-variants.{Look, Fetch, Make, Try, Clear, Settle}
+use Rattle.cores.specs.declared.table.Core.{Core}
 use Rattle.model.specs.World.{World, new-core, core-at, word-at, with-words, with-core, with-cores, with-operation, with-placing}
 use Rattle.model.specs.Rules.{by-sight, through-mark, same-mark, first-entry, after-look, after-begin, after-try, after-decide, outcome-after, after-clear-load, after-clear-swap, resume, is-undecided}
 use Rattle.model.specs.Step.{arrive, change-world, swaps, decides, makes, step-change, step-place, step-world, after-make, cleared-to, settled-to}

@@ -16,11 +16,11 @@ use Rattle.descriptor.specs.declared.contents.State.{State}
 use Rattle.descriptor.specs.declared.contents.State.the-variants as state
 use Rattle.descriptor.specs.declared.contents.Outcome.the-variants as outcome
 use Rattle.word.specs.declared.Mark.{Mark}
-use Rattle.model.specs.declared.place.Work.{Work}
-use Rattle.model.specs.declared.place.Place.{Place}
-use Rattle.model.specs.declared.place.Place.the-variants.{Idle, Finished, Decide}
-use Rattle.model.specs.declared.place.Own.{Own}
-use Rattle.model.specs.declared.place.Own.the-variants as own
+use Rattle.cores.specs.declared.place.Work.{Work}
+use Rattle.cores.specs.declared.place.Place.{Place}
+use Rattle.cores.specs.declared.place.Place.the-variants.{Idle, Finished, Decide}
+use Rattle.cores.specs.declared.place.Own.{Own}
+use Rattle.cores.specs.declared.place.Own.the-variants as own
 use Rattle.model.specs.Calls.{Call, starts, reads, steps, started-core}
 use Rattle.model.specs.Refusals.{is-finished}
 use Rattle.model.specs.Histories.{History, Called}

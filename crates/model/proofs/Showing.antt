@@ -18,7 +18,7 @@ use Rattle.descriptor.specs.declared.contents.Outcome.{Outcome}
 use Rattle.descriptor.specs.declared.contents.Outcome.the-variants as outcome
 use Rattle.descriptor.specs.declared.contents.Placing.{Placing}
 use Rattle.descriptor.specs.Contents.{state-of}
-use Rattle.model.specs.declared.place.Place.{Place}
+use Rattle.cores.specs.declared.place.Place.{Place}
 use Rattle.model.specs.Shown.{value-by, value-among}
 use Rattle.model.specs.Step.{cleared-to, settled-to}
 use Rattle.model.specs.Plain.{Holds-expected, Stored}

@@ -11,8 +11,8 @@ use Rattle.descriptor.specs.declared.contents.Operation.{Operation}
 use Rattle.descriptor.specs.declared.contents.Outcome.{Outcome}
 use Rattle.descriptor.specs.declared.contents.Placing.{Placing}
 use Rattle.descriptor.specs.Contents.{state-of}
-use Rattle.model.specs.declared.place.Place.{Place}
-use Rattle.model.specs.declared.table.Core.{Core}
+use Rattle.cores.specs.declared.place.Place.{Place}
+use Rattle.cores.specs.declared.table.Core.{Core}
 use Rattle.model.specs.World.{World, new-core, core-at, with-core, with-place}
 use Rattle.model.specs.Shown.{entries-of}
 use Rattle.model.specs.Relation.{goes, stores, decides-on, creates, Current}

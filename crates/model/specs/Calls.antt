@@ -6,7 +6,7 @@ use Rattle.std.specs.declared.option.Option.the-variants.{Some, None}
 use Rattle.entries.specs.declared.Entry.{Entry}
 use Rattle.entries.specs.declared.list.Entries.{Entries}
 use Rattle.entries.specs.Listed.{listed}
-use Rattle.model.specs.declared.table.Setting.{Setting}
+use Rattle.cores.specs.declared.table.Setting.{Setting}
 
 -- The calls of a machine, but for close, which ends a run.
 pub data Call : Type 0 where

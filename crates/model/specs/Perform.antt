@@ -10,14 +10,14 @@ use Rattle.entries.specs.declared.list.Entries.{Entries}
 use Rattle.descriptor.specs.Descriptors.{created}
 use Rattle.descriptor.specs.Contents.{undecided}
 use Prim.Native.Nat.{_+_}
-use Rattle.model.specs.declared.place.Place.{Place}
-use Rattle.model.specs.declared.place.Place.the-variants.{Idle, Finished, Look, Begin, Fetch, Make, Try, Decide, Clear, Settle}
-use Rattle.model.specs.declared.place.Own.{Own}
-use Rattle.model.specs.declared.place.Own.the-variants as own
-use Rattle.model.specs.declared.table.Core.{Core}
-use Rattle.model.specs.declared.table.Table.{Table}
-use Rattle.model.specs.declared.table.Setting.{Setting}
-use Rattle.model.specs.declared.table.Refusal.{Refusal}
+use Rattle.cores.specs.declared.place.Place.{Place}
+use Rattle.cores.specs.declared.place.Place.the-variants.{Idle, Finished, Look, Begin, Fetch, Make, Try, Decide, Clear, Settle}
+use Rattle.cores.specs.declared.place.Own.{Own}
+use Rattle.cores.specs.declared.place.Own.the-variants as own
+use Rattle.cores.specs.declared.table.Core.{Core}
+use Rattle.cores.specs.declared.table.Table.{Table}
+use Rattle.cores.specs.declared.table.Setting.{Setting}
+use Rattle.cores.specs.declared.table.Refusal.{Refusal}
 use Rattle.model.specs.World.{World, new-core, core-at, with-core}
 use Rattle.model.specs.Rules.{home}
 use Rattle.model.specs.Step.{step-world}

@@ -13,10 +13,10 @@ use Rattle.entries.specs.declared.list.Entries.{Entries}
 use Rattle.entries.specs.Lists.{Lawful, entry-at}
 use Rattle.entries.specs.Listed.{listed, filling}
 use Rattle.descriptor.specs.Descriptors.{last-number}
-use Rattle.model.specs.declared.place.Place.{Place}
-use Rattle.model.specs.declared.table.Setting.{Setting}
-use Rattle.model.specs.declared.table.Refusal.{Refusal}
-use Rattle.model.specs.declared.table.Refusal.the-variants.{Tagged, NoRight, UsedUp}
+use Rattle.cores.specs.declared.place.Place.{Place}
+use Rattle.cores.specs.declared.table.Setting.{Setting}
+use Rattle.cores.specs.declared.table.Refusal.{Refusal}
+use Rattle.cores.specs.declared.table.Refusal.the-variants.{Tagged, NoRight, UsedUp}
 use Rattle.model.specs.World.{World}
 use Rattle.model.specs.Calls.{Call, starts, reads, steps, collects, raws, opens}
 use Rattle.model.specs.Refusals.{refusal-of, number-of, setting-fits}

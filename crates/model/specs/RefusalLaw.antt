@@ -10,12 +10,12 @@ use Rattle.word.specs.declared.Word.the-variants as word
 use Rattle.word.specs.Word.{reading-of}
 use Rattle.entries.specs.declared.Entry.{Entry}
 use Rattle.descriptor.specs.Descriptors.{last-number}
-use Rattle.model.specs.declared.place.Work.{Work}
-use Rattle.model.specs.declared.place.Place.{Place}
-use Rattle.model.specs.declared.place.Place.the-variants.{Idle, Finished, Make}
-use Rattle.model.specs.declared.table.Setting.{Setting}
-use Rattle.model.specs.declared.table.Refusal.{Refusal}
-use Rattle.model.specs.declared.table.Refusal.the-variants.{Closed, Open, Setting as Bad-setting, Tagged, NoCore, Halted, Busy, AtRest, List as Bad-list, NoWord, NoRight, UsedUp, NoAnswer, File}
+use Rattle.cores.specs.declared.place.Work.{Work}
+use Rattle.cores.specs.declared.place.Place.{Place}
+use Rattle.cores.specs.declared.place.Place.the-variants.{Idle, Finished, Make}
+use Rattle.cores.specs.declared.table.Setting.{Setting}
+use Rattle.cores.specs.declared.table.Refusal.{Refusal}
+use Rattle.cores.specs.declared.table.Refusal.the-variants.{Closed, Open, Setting as Bad-setting, Tagged, NoCore, Halted, Busy, AtRest, List as Bad-list, NoWord, NoRight, UsedUp, NoAnswer, File}
 use Rattle.model.specs.World.{World, core-at}
 use Rattle.model.specs.Calls.{Call, steps, core-of, words-of, started-core, stepped-core, collected-core, setting-of}
 use Rattle.model.specs.Refusals.{number-of}

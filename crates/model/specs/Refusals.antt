@@ -12,11 +12,11 @@ use Rattle.word.specs.declared.Word.{Word}
 use Rattle.word.specs.declared.Word.the-variants as word
 use Rattle.word.specs.Word.{reading-of}
 use Rattle.descriptor.specs.Descriptors.{last-number}
-use Rattle.model.specs.declared.place.Place.{Place}
-use Rattle.model.specs.declared.place.Place.the-variants.{Idle, Finished, Look, Begin, Fetch, Make, Try, Decide, Clear, Settle}
-use Rattle.model.specs.declared.table.Setting.{Setting}
-use Rattle.model.specs.declared.table.Refusal.{Refusal}
-use Rattle.model.specs.declared.table.Refusal.the-variants.{Closed, Open, Setting as Bad-setting, Tagged, NoCore, Halted, Busy, AtRest, List as Bad-list, NoWord, NoRight, UsedUp, NoAnswer, File}
+use Rattle.cores.specs.declared.place.Place.{Place}
+use Rattle.cores.specs.declared.place.Place.the-variants.{Idle, Finished, Look, Begin, Fetch, Make, Try, Decide, Clear, Settle}
+use Rattle.cores.specs.declared.table.Setting.{Setting}
+use Rattle.cores.specs.declared.table.Refusal.{Refusal}
+use Rattle.cores.specs.declared.table.Refusal.the-variants.{Closed, Open, Setting as Bad-setting, Tagged, NoCore, Halted, Busy, AtRest, List as Bad-list, NoWord, NoRight, UsedUp, NoAnswer, File}
 use Rattle.model.specs.World.{World, core-at}
 use Rattle.model.specs.Calls.{Call, core-of, words-of, started-core, stepped-core, collected-core, setting-of}
 

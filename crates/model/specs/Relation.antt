@@ -16,13 +16,13 @@ use Rattle.descriptor.specs.declared.contents.Outcome.{Outcome}
 use Rattle.descriptor.specs.declared.contents.Outcome.the-variants as outcome
 use Rattle.descriptor.specs.declared.contents.Placing.{Placing}
 use Rattle.descriptor.specs.Contents.{count-of, entry-in, state-of}
-use Rattle.model.specs.declared.place.Work.{Work}
-use Rattle.model.specs.declared.place.Then.{Then}
-use Rattle.model.specs.declared.place.Then.the-variants as then
-use Rattle.model.specs.declared.place.Clearing.the-variants as clearing
-use Rattle.model.specs.declared.place.Settling.the-variants as settling
-use Rattle.model.specs.declared.place.Place.{Place}
-use Rattle.model.specs.declared.place.Place.the-variants.{Finished, Look, Begin, Fetch, Make, Try, Decide, Clear, Settle}
+use Rattle.cores.specs.declared.place.Work.{Work}
+use Rattle.cores.specs.declared.place.Then.{Then}
+use Rattle.cores.specs.declared.place.Then.the-variants as then
+use Rattle.cores.specs.declared.place.Clearing.the-variants as clearing
+use Rattle.cores.specs.declared.place.Settling.the-variants as settling
+use Rattle.cores.specs.declared.place.Place.{Place}
+use Rattle.cores.specs.declared.place.Place.the-variants.{Finished, Look, Begin, Fetch, Make, Try, Decide, Clear, Settle}
 use Rattle.model.specs.World.{World, core-at, with-words, with-core, with-operation, with-placing}
 use Rattle.model.specs.Rules.{home, first-entry, next-entry, after-clear-swap, resume}
 use Rattle.model.specs.Step.{cleared-to, settled-to, arrive}

@@ -17,17 +17,17 @@ use Rattle.descriptor.specs.declared.contents.Outcome.{Outcome}
 use Rattle.descriptor.specs.declared.contents.Outcome.the-variants as outcome
 use Rattle.descriptor.specs.declared.contents.Placing.{Placing}
 use Rattle.descriptor.specs.Contents.{count-of, entry-in}
-use Rattle.model.specs.declared.place.Work.{Work}
-use Rattle.model.specs.declared.place.Then.{Then}
-use Rattle.model.specs.declared.place.Then.the-variants as then
-use Rattle.model.specs.declared.place.Clearing.{Clearing}
-use Rattle.model.specs.declared.place.Clearing.the-variants as clearing
-use Rattle.model.specs.declared.place.Settling.{Settling}
-use Rattle.model.specs.declared.place.Settling.the-variants as settling
-use Rattle.model.specs.declared.place.Place.{Place}
-use Rattle.model.specs.declared.place.Place.the-variants.{Idle, Finished, Look, Begin, Fetch, Make, Try, Decide, Clear, Settle}
-use Rattle.model.specs.declared.place.Own.{Own}
-use Rattle.model.specs.declared.place.Own.the-variants as own
+use Rattle.cores.specs.declared.place.Work.{Work}
+use Rattle.cores.specs.declared.place.Then.{Then}
+use Rattle.cores.specs.declared.place.Then.the-variants as then
+use Rattle.cores.specs.declared.place.Clearing.{Clearing}
+use Rattle.cores.specs.declared.place.Clearing.the-variants as clearing
+use Rattle.cores.specs.declared.place.Settling.{Settling}
+use Rattle.cores.specs.declared.place.Settling.the-variants as settling
+use Rattle.cores.specs.declared.place.Place.{Place}
+use Rattle.cores.specs.declared.place.Place.the-variants.{Idle, Finished, Look, Begin, Fetch, Make, Try, Decide, Clear, Settle}
+use Rattle.cores.specs.declared.place.Own.{Own}
+use Rattle.cores.specs.declared.place.Own.the-variants as own
 
 -- The step rules: where a core goes from its place, by what the one access of the step saw there. T is the operation being worked on, M the
 -- core's own. They are those of k-CAS over DCSS with weak descriptors (Arbel-Raviv and Brown, DISC 2017), with five departures, each

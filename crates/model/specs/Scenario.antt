@@ -9,10 +9,10 @@ use Rattle.entries.specs.declared.Entry.{Entry}
 use Rattle.entries.specs.declared.list.Entries.{Entries}
 use Rattle.entries.specs.Lists.{each, zero-entry}
 use Rattle.descriptor.specs.declared.contents.Placing.{Placing}
-use Rattle.model.specs.declared.place.Work.{Work}
-use Rattle.model.specs.declared.place.Then.{Then}
-use Rattle.model.specs.declared.place.Settling.the-variants as settling
-use Rattle.model.specs.declared.place.Place.the-variants.{Settle}
+use Rattle.cores.specs.declared.place.Work.{Work}
+use Rattle.cores.specs.declared.place.Then.{Then}
+use Rattle.cores.specs.declared.place.Settling.the-variants as settling
+use Rattle.cores.specs.declared.place.Place.the-variants.{Settle}
 use Rattle.model.specs.World.{World, core-at}
 use Rattle.model.specs.Calls.{Call, starts, reads, steps, collects, raws}
 use Rattle.model.specs.Perform.{perform, opened}

@@ -1,12 +1,9 @@
-//! The machine on paper: the plain types of the core table, and in specs/ the definition of every call.
+//! The machine on paper: in specs/ the definition of every call and the promises, and the theorems about them.
 ghost use Rattle.model.specs.RefusalLaw.{Refusal-law};
 ghost use Rattle.model.specs.Promises.{Promises-hold};
 ghost use Rattle.model.specs.Relation.{Relation-law};
 ghost use Rattle.model.specs.StepLaw.{Steps-follow-rules};
 ghost use Rattle.model.specs.Worked.{Worked-points};
-
-pub mod place;
-pub mod table;
 
 /// A call is refused with the first refusal whose condition holds, and then changes nothing.
 pub fn refusals_stand()

@@ -1,0 +1,3 @@
+//! The core table: eight cores, where each stands, and what is done to one core's record.
+pub mod place;
+pub mod table;

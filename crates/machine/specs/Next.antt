@@ -15,7 +15,8 @@ use Rattle.cores.specs.declared.place.Settling.the-variants as settling
 use Rattle.cores.specs.declared.place.Then.{Then}
 use Rattle.cores.specs.declared.place.Own.{Own}
 use Rattle.cores.specs.declared.place.Work.{Work}
-use Rattle.model.specs.Rules.{home, after-look, after-begin, after-try, after-decide, outcome-after, after-clear-load, after-clear-swap, resume, is-undecided}
+use Rattle.model.specs.Rules.{after-look, after-begin, after-try, after-decide, outcome-after, after-clear-load, after-clear-swap, resume, is-undecided}
+use Rattle.cores.specs.Cores.{home}
 use Rattle.machine.specs.declared.seen.Seen.{Seen}
 use Rattle.machine.specs.declared.seen.Seen.the-variants as seen
 

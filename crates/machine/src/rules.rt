@@ -1,6 +1,7 @@
 //! Where a core goes from its place, by what the access there saw.
 ghost use mathlib.Core.Path.{_≡_};
-ghost use Rattle.model.specs.Rules.{same-mark, home, next-entry, after-look, after-begin, after-try, after-decide, outcome-after, after-clear-load, answer-of, after-last, after-clear-swap, resume, is-undecided};
+ghost use Rattle.model.specs.Rules.{same-mark, next-entry, after-look, after-begin, after-try, after-decide, outcome-after, after-clear-load, answer-of, after-last, after-clear-swap, resume, is-undecided};
+ghost use Rattle.cores.specs.Cores.{home};
 ghost use Rattle.machine.specs.Next.{clear-next, settle-next, next-place};
 use super::seen::Seen;
 use descriptor::Outcome;

@@ -20,12 +20,13 @@ use Rattle.cores.specs.declared.place.Own.the-variants as own
 use Rattle.cores.specs.declared.table.Core.{Core}
 use Rattle.cores.specs.declared.table.Refusal.{Refusal}
 use Rattle.cores.specs.declared.table.Refusal.the-variants.{NoCore, Halted, UsedUp}
-use Rattle.model.specs.World.{World, new-core, core-at, with-core}
+use Rattle.model.specs.World.{World, core-at, with-core}
+use Rattle.cores.specs.Cores.{new-core, is-finished, started, answer-in}
 use Rattle.model.specs.Step.{Change, nothing, swaps, decides, makes, step-change, change-world, step-world}
 use Rattle.model.specs.Calls.{Call, starts, reads, steps, collects, halts, shows, raws, opens, core-of, started-core}
-use Rattle.model.specs.Refusals.{refusal-of, is-finished}
+use Rattle.model.specs.Refusals.{refusal-of}
 use Rattle.model.specs.RefusalLaw.{Holds}
-use Rattle.model.specs.Perform.{Performed, perform, granted, unless-refused, started, start-number, answer-in}
+use Rattle.model.specs.Perform.{Performed, perform, granted, unless-refused, start-number}
 use Rattle.model.specs.Histories.{History, world-at, Called}
 use Rattle.model.specs.Marks.{operation, Creates}
 use Rattle.model.proofs.RefusalTable.{none-holds}

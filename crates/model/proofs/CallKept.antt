@@ -32,9 +32,8 @@ use Rattle.cores.specs.declared.place.Own.the-variants as own
 use Rattle.cores.specs.declared.table.Core.{Core}
 use Rattle.cores.specs.declared.table.Refusal.{Refusal}
 use Rattle.model.specs.World.{World, core-at, with-core}
-use Rattle.model.specs.Rules.{home}
+use Rattle.cores.specs.Cores.{home, started, collected, halted}
 use Rattle.model.specs.Shown.{entries-of}
-use Rattle.model.specs.Perform.{started, collected, halted}
 use Rattle.model.proofs.Memory.{Memory, view, entry, upd, move, fresh-op, disown}
 use Rattle.model.proofs.Facts.{Current, Undecided, past, due, Apart, Place-ok, Word-ok, Own-ok, Inv, Rely}
 use Rattle.model.proofs.Updates.{upd-same, upd-at, upd-other, upd-both}

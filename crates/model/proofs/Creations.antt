@@ -21,13 +21,13 @@ use Rattle.cores.specs.declared.place.Own.the-variants as own
 use Rattle.cores.specs.declared.table.Core.{Core}
 use Rattle.cores.specs.declared.table.Refusal.{Refusal}
 use Rattle.cores.specs.declared.table.Refusal.the-variants.{Open}
-use Rattle.model.specs.World.{World, new-core, core-at, with-core, with-placing}
-use Rattle.model.specs.Rules.{home}
+use Rattle.model.specs.World.{World, core-at, with-core}
+use Rattle.cores.specs.Cores.{new-core, with-placing, home, started}
 use Rattle.model.specs.Step.{Change, nothing, swaps, decides, makes, step-change, change-world, step-world}
 use Rattle.model.specs.Calls.{Call, starts, reads, steps, collects, halts, shows, raws, opens}
 use Rattle.model.specs.Refusals.{refusal-of}
 use Rattle.model.specs.RefusalLaw.{Holds}
-use Rattle.model.specs.Perform.{perform, granted, unless-refused, started}
+use Rattle.model.specs.Perform.{perform, granted, unless-refused}
 use Rattle.model.specs.Histories.{History, opening-of, world-at}
 use Rattle.model.specs.Marks.{Marked, placing, operation, mark-of, last-of, Same-descriptor, placings, operations}
 use Rattle.model.proofs.RefusalTable.{none-holds}

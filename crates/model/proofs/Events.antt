@@ -24,9 +24,9 @@ use Rattle.cores.specs.declared.place.Place.{Place}
 use Rattle.cores.specs.declared.place.Place.the-variants.{Idle, Finished, Look, Begin, Fetch, Make, Try, Decide, Clear, Settle}
 use Rattle.cores.specs.declared.place.Own.{Own}
 use Rattle.cores.specs.declared.place.Own.the-variants as own
-use Rattle.model.specs.Rules.{same-mark, home, first-entry, entry-after, has-more, next-entry, resume, answer-of, after-last, after-clear-swap}
+use Rattle.model.specs.Rules.{same-mark, first-entry, entry-after, has-more, next-entry, resume, answer-of, after-last, after-clear-swap}
+use Rattle.cores.specs.Cores.{home, is-idle, is-finished}
 use Rattle.model.specs.Step.{cleared-to, settled-to}
-use Rattle.model.specs.Refusals.{is-idle, is-finished}
 use Rattle.model.specs.Plain.{Holds-expected}
 use Rattle.model.proofs.Memory.{Memory, entry, upd, move, put, settled, fresh-pl}
 use Rattle.model.proofs.Facts.{Made, Current, Undecided, Pl-current, Place-ok, Own-ok, Settling-ok, Inv}

@@ -18,7 +18,8 @@ use Rattle.descriptor.specs.declared.contents.State.the-variants as state
 use Rattle.cores.specs.declared.place.Place.the-variants.{Idle}
 use Rattle.cores.specs.declared.place.Own.the-variants as own
 use Rattle.cores.specs.declared.table.Core.{Core}
-use Rattle.model.specs.World.{World, new-core, core-at}
+use Rattle.model.specs.World.{World, core-at}
+use Rattle.cores.specs.Cores.{new-core}
 use Rattle.model.specs.Shown.{entries-of}
 use Rattle.model.specs.Calls.{Call, steps, opens}
 use Rattle.model.specs.Refusals.{table-for, is-plain}

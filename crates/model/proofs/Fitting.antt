@@ -37,10 +37,10 @@ use Rattle.cores.specs.declared.place.Own.{Own}
 use Rattle.cores.specs.declared.place.Own.the-variants as own
 use Rattle.cores.specs.declared.table.Core.{Core}
 use Rattle.model.specs.World.{World, core-at, word-at, operation-at, placing-at}
-use Rattle.model.specs.Rules.{by-sight, through-mark, same-mark, home, has-more, next-entry, after-look, after-begin, after-try, after-last, after-clear-load, after-clear-swap, resume}
+use Rattle.model.specs.Rules.{by-sight, through-mark, same-mark, has-more, next-entry, after-look, after-begin, after-try, after-last, after-clear-load, after-clear-swap, resume}
+use Rattle.cores.specs.Cores.{home, is-making}
 use Rattle.model.specs.Step.{step-place, cleared-to, settled-to}
 use Rattle.model.specs.Shown.{entries-of}
-use Rattle.model.specs.Refusals.{is-making}
 use Rattle.model.proofs.Ranges.{Bounds, bounds, Known-operation, Known-placing, Entry-fits, Placing-fits, Word-fits, Then-fits, Clearing-fits, Settling-fits, Place-fits, Own-fits, Core-fits, Ranged}
 
 -- What is in range stays so when numbers are taken, and a step leads from what is in range to a place in range.

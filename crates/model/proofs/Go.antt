@@ -17,8 +17,8 @@ use Rattle.cores.specs.declared.place.Place.{Place}
 use Rattle.cores.specs.declared.place.Place.the-variants.{Idle, Finished, Look, Begin, Fetch, Make, Try, Decide, Clear, Settle}
 use Rattle.cores.specs.declared.place.Own.{Own}
 use Rattle.cores.specs.declared.place.Own.the-variants as own
-use Rattle.model.specs.Rules.{same-mark, home, entry-after, has-more, next-entry}
-use Rattle.model.specs.Refusals.{is-idle}
+use Rattle.model.specs.Rules.{same-mark, entry-after, has-more, next-entry}
+use Rattle.cores.specs.Cores.{home, is-idle}
 use Rattle.model.proofs.Memory.{Memory, entry, move}
 use Rattle.model.proofs.Facts.{Made, Current, Undecided, Pl-made, Passed, Filled, wants, places, past, due, Unplaced, Works, Place-ok, Word-ok, Own-ok, Inv}
 use Rattle.model.proofs.Effects.{Calm}

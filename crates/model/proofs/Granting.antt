@@ -17,7 +17,8 @@ use Rattle.cores.specs.declared.table.Refusal.{Refusal}
 use Rattle.cores.specs.declared.table.Refusal.the-variants.{UsedUp}
 use Rattle.model.specs.World.{World, core-at}
 use Rattle.model.specs.Calls.{Call, starts, steps, collects, words-of}
-use Rattle.model.specs.Refusals.{Row, first-match, some-of, refusal-of, is-idle, is-finished, is-making, is-plain, has-right, first-tagged}
+use Rattle.model.specs.Refusals.{Row, first-match, some-of, refusal-of, is-plain, has-right, first-tagged}
+use Rattle.cores.specs.Cores.{is-idle, is-finished, is-making}
 use Rattle.model.specs.Perform.{perform, unless-refused, granted}
 
 -- What is refused and what is granted.

@@ -22,9 +22,10 @@ use Rattle.cores.specs.declared.table.Refusal.{Refusal}
 use Rattle.cores.specs.declared.table.Refusal.the-variants.{Open, NoCore, Busy, AtRest, UsedUp, NoAnswer}
 use Rattle.model.specs.World.{World, core-at, with-core}
 use Rattle.model.specs.Calls.{Call, starts, reads, steps, collects, halts, shows, raws, opens, core-of}
-use Rattle.model.specs.Refusals.{refusal-of, is-idle, is-finished}
+use Rattle.model.specs.Refusals.{refusal-of}
+use Rattle.cores.specs.Cores.{is-idle, is-finished, answer-in}
 use Rattle.model.specs.RefusalLaw.{Holds}
-use Rattle.model.specs.Perform.{perform, granted, unless-refused, answer-in}
+use Rattle.model.specs.Perform.{perform, granted, unless-refused}
 use Rattle.model.specs.Relation.{Rule, In-range, Stuck}
 use Rattle.model.proofs.Memory.{Memory, view, move, fresh-op, disown}
 use Rattle.model.proofs.Facts.{Inv}

@@ -45,13 +45,13 @@ use Rattle.cores.specs.declared.table.Core.{Core}
 use Rattle.cores.specs.declared.table.Setting.{Setting}
 use Rattle.cores.specs.declared.table.Refusal.{Refusal}
 use Rattle.cores.specs.declared.table.Refusal.the-variants.{Open, Setting as Bad-setting, Tagged, NoCore, NoWord, UsedUp}
-use Rattle.model.specs.World.{World, new-core, core-at, with-words, with-core, with-placing}
-use Rattle.model.specs.Rules.{home}
+use Rattle.model.specs.World.{World, core-at, with-words, with-core}
+use Rattle.cores.specs.Cores.{new-core, with-placing, home, is-making, started, halted}
 use Rattle.model.specs.Step.{decides, step-change, step-place, change-world, after-make, arrive, step-world}
 use Rattle.model.specs.Calls.{Call, starts, reads, steps, collects, halts, shows, raws, opens, core-of, words-of}
-use Rattle.model.specs.Refusals.{refusal-of, is-making, is-plain, setting-fits}
+use Rattle.model.specs.Refusals.{refusal-of, is-plain, setting-fits}
 use Rattle.model.specs.RefusalLaw.{Holds, Fits, Is-plain}
-use Rattle.model.specs.Perform.{perform, granted, unless-refused, started, halted, closed-table}
+use Rattle.model.specs.Perform.{perform, granted, unless-refused, closed-table}
 use Rattle.model.specs.Histories.{History, after-calls, opening-of, world-at}
 use Rattle.model.specs.Shown.{entries-of}
 use Rattle.model.proofs.RefusalTests.{decides-plain, decides-making, decides-fits}

@@ -28,7 +28,8 @@ use Rattle.cores.specs.declared.table.Setting.{Setting}
 use Rattle.cores.specs.declared.table.Refusal.the-variants.{UsedUp, NoRight}
 use Rattle.model.specs.World.{World}
 use Rattle.model.specs.Calls.{starts, steps, collects}
-use Rattle.model.specs.Refusals.{refusal-of, is-plain, is-idle, is-finished, is-making}
+use Rattle.model.specs.Refusals.{refusal-of, is-plain}
+use Rattle.cores.specs.Cores.{is-idle, is-finished, is-making}
 use Rattle.model.specs.Perform.{Performed, perform, opened}
 use Rattle.model.specs.Histories.{answers-of}
 use Rattle.model.specs.Points.{shut, Matches, Matching, Differing, Second-make-used-up, Refused-start-takes-no-number}

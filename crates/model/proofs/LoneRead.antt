@@ -19,12 +19,13 @@ use Rattle.cores.specs.declared.place.Own.the-variants as own
 use Rattle.cores.specs.declared.table.Core.{Core}
 use Rattle.cores.specs.declared.table.Setting.{Setting}
 use Rattle.cores.specs.declared.table.Refusal.the-variants.{UsedUp}
-use Rattle.model.specs.World.{World, core-at, with-place}
+use Rattle.model.specs.World.{World, core-at}
+use Rattle.cores.specs.Cores.{with-place, is-idle, collected}
 use Rattle.model.specs.Rules.{by-sight, after-look}
 use Rattle.model.specs.Step.{arrive}
 use Rattle.model.specs.Calls.{starts, reads, steps, collects}
-use Rattle.model.specs.Refusals.{refusal-of, table-for, is-idle}
-use Rattle.model.specs.Perform.{Performed, perform, opened, collected}
+use Rattle.model.specs.Refusals.{refusal-of, table-for}
+use Rattle.model.specs.Perform.{Performed, perform, opened}
 use Rattle.model.specs.Histories.{answers-of}
 use Rattle.model.specs.Points.{shut, Start-after-read-used-up}
 use Rattle.model.proofs.Granting.{perform-granted, perform-refused, test-fails, fails-at, start-refused}

@@ -26,11 +26,11 @@ use Rattle.cores.specs.declared.place.Place.{Place}
 use Rattle.cores.specs.declared.place.Own.the-variants as own
 use Rattle.cores.specs.declared.table.Core.{Core}
 use Rattle.cores.specs.declared.table.Table.{Table}
-use Rattle.model.specs.World.{World, new-core, core-at, operation-at, placing-at, with-cores, with-core, with-place, with-operation, with-placing}
+use Rattle.model.specs.World.{World, core-at, operation-at, placing-at, with-cores, with-core}
+use Rattle.cores.specs.Cores.{new-core, with-place, with-operation, with-placing, is-idle, is-finished, is-making, collected, answer-in}
 use Rattle.model.specs.Step.{makes, decides, change-world, step-change, step-place, arrive}
 use Rattle.model.specs.Calls.{steps, collects}
-use Rattle.model.specs.Refusals.{is-idle, is-finished, is-making}
-use Rattle.model.specs.Perform.{perform, collected, answer-in}
+use Rattle.model.specs.Perform.{perform}
 use Rattle.model.proofs.Granting.{perform-granted, step-granted, collect-granted}
 
 -- A core that runs a list while no other core steps: each step of its run, over the few things that change in it.

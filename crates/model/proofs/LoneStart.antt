@@ -28,11 +28,11 @@ use Rattle.cores.specs.declared.place.Own.{Own}
 use Rattle.cores.specs.declared.place.Own.the-variants as own
 use Rattle.cores.specs.declared.table.Core.{Core}
 use Rattle.cores.specs.declared.table.Setting.{Setting}
-use Rattle.model.specs.World.{new-core, core-at, with-core}
-use Rattle.model.specs.Rules.{home}
+use Rattle.model.specs.World.{core-at, with-core}
+use Rattle.cores.specs.Cores.{new-core, home, started}
 use Rattle.model.specs.Calls.{starts, opens}
 use Rattle.model.specs.Refusals.{refusal-of, table-for, setting-fits, is-plain}
-use Rattle.model.specs.Perform.{Performed, perform, opened, opened-table, started}
+use Rattle.model.specs.Perform.{Performed, perform, opened, opened-table}
 use Rattle.model.specs.Points.{shut}
 use Rattle.model.proofs.Granting.{perform-granted, test-fails, fails-at, all-plain}
 use Rattle.model.proofs.LoneRun.{Run, Runs, own-mark, with-runner, lone}

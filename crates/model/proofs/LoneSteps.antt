@@ -37,7 +37,7 @@ use Rattle.model.specs.World.{World}
 use Rattle.model.specs.Rules.{by-sight, through-mark, after-begin, after-try, after-decide, outcome-after, after-clear-load, after-clear-swap, resume, is-undecided}
 use Rattle.model.specs.Step.{after-make, cleared-to, change-world, step-change, step-place}
 use Rattle.model.specs.Calls.{steps}
-use Rattle.model.specs.Refusals.{is-idle, is-finished, is-making}
+use Rattle.cores.specs.Cores.{is-idle, is-finished, is-making}
 use Rattle.model.specs.Perform.{perform}
 use Rattle.model.proofs.LoneRun.{Run, Runs, own-mark, run-length, run-entry, run-work, runner, lone, runner-at, operation-here, placing-here, made, settled-outcome, step-to}
 

@@ -35,7 +35,7 @@ use Rattle.model.specs.World.{World}
 use Rattle.model.specs.Rules.{next-entry, after-clear-swap, answer-of}
 use Rattle.model.specs.Step.{cleared-to}
 use Rattle.model.specs.Calls.{Call, steps, collects}
-use Rattle.model.specs.Refusals.{is-finished}
+use Rattle.cores.specs.Cores.{is-finished}
 use Rattle.model.specs.Perform.{Performed}
 use Rattle.model.specs.Histories.{answers-of}
 use Rattle.model.proofs.LoneRun.{Run, Runs, own-mark, run-length, run-entry, run-work, runner, lone, collect-by}

@@ -35,7 +35,8 @@ use Rattle.model.specs.World.{World, core-at}
 use Rattle.model.specs.Rules.{answer-of, first-entry}
 use Rattle.model.specs.Shown.{value-among}
 use Rattle.model.specs.Calls.{Call, starts, reads, steps, collects, started-core}
-use Rattle.model.specs.Refusals.{refusal-of, is-idle, is-finished}
+use Rattle.model.specs.Refusals.{refusal-of}
+use Rattle.cores.specs.Cores.{is-idle, is-finished}
 use Rattle.model.specs.Perform.{perform}
 use Rattle.model.specs.Histories.{History, after-calls, opening-of, world-at, Called}
 use Rattle.model.specs.Plain.{Completed, Whole, swap-all, look-at, Done, succeeds, fails as fails-at, sees}

@@ -21,7 +21,8 @@ use Rattle.cores.specs.declared.place.Place.{Place}
 use Rattle.cores.specs.declared.place.Place.the-variants.{Idle, Finished, Look, Begin, Fetch, Make, Try, Decide, Clear, Settle}
 use Rattle.cores.specs.declared.table.Setting.{Setting}
 use Rattle.model.specs.Calls.{Call, words-of}
-use Rattle.model.specs.Refusals.{is-idle, is-finished, is-making, is-plain, first-tagged, some-of, if-there, setting-fits}
+use Rattle.model.specs.Refusals.{is-plain, first-tagged, some-of, if-there, setting-fits}
+use Rattle.cores.specs.Cores.{is-idle, is-finished, is-making}
 use Rattle.model.specs.RefusalLaw.{Fits, There, Is-plain, Is-finished, Is-making, Some-word}
 
 -- Each test of the table decides the condition that it stands for.

@@ -31,7 +31,8 @@ use Rattle.cores.specs.declared.place.Settling.the-variants as settling
 use Rattle.cores.specs.declared.place.Place.{Place}
 use Rattle.cores.specs.declared.place.Place.the-variants.{Look, Fetch, Make, Try, Clear, Settle}
 use Rattle.cores.specs.declared.table.Core.{Core}
-use Rattle.model.specs.World.{World, new-core, core-at, word-at, with-words, with-core, with-cores, with-operation, with-placing}
+use Rattle.model.specs.World.{World, core-at, word-at, with-words, with-core, with-cores}
+use Rattle.cores.specs.Cores.{new-core, with-operation, with-placing}
 use Rattle.model.specs.Rules.{by-sight, through-mark, same-mark, first-entry, after-look, after-begin, after-try, after-decide, outcome-after, after-clear-load, after-clear-swap, resume, is-undecided}
 use Rattle.model.specs.Step.{arrive, change-world, swaps, decides, makes, step-change, step-place, step-world, after-make, cleared-to, settled-to}
 use Rattle.model.specs.Relation.{goes, stores, creates, decides-on, At, Sees, Newest, Older, Current, Overtaken-operation, Rule, In-range, look-plain, look-placing, look-operation, begin-undecided, begin-decided, begin-overtaken, fetch, fetch-overtaken, make, try-placed, try-meets-placing, try-meets-own, try-meets-operation, try-differs, decide-first, decide-later, decide-overtaken, clear-read, clear-overtaken, clear-meets-placing, clear-load, clear-takes-out, clear-misses, settle-read, settle-overtaken, settle-undecided, settle-decided, settle-past, settle-replaces, settle-misses}

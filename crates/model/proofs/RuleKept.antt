@@ -29,11 +29,11 @@ use Rattle.cores.specs.declared.place.Place.the-variants.{Fetch, Make, Try, Cle
 use Rattle.cores.specs.declared.place.Clearing.the-variants as clearing
 use Rattle.cores.specs.declared.place.Settling.the-variants as settling
 use Rattle.cores.specs.declared.table.Core.{Core}
-use Rattle.model.specs.World.{World, core-at, with-core, with-operation, with-placing}
+use Rattle.model.specs.World.{World, core-at, with-core}
+use Rattle.cores.specs.Cores.{with-operation, with-placing, is-idle}
 use Rattle.model.specs.Rules.{first-entry}
 use Rattle.model.specs.Step.{cleared-to, settled-to}
 use Rattle.model.specs.Shown.{entries-of}
-use Rattle.model.specs.Refusals.{is-idle}
 use Rattle.model.specs.Relation as rel
 use Rattle.model.specs.Relation.{Rule, look-plain, look-placing, look-operation, begin-undecided, begin-decided, begin-overtaken, fetch, fetch-overtaken, make, try-placed, try-meets-placing, try-meets-own, try-meets-operation, try-differs, decide-first, decide-later, decide-overtaken, clear-read, clear-overtaken, clear-meets-placing, clear-load, clear-takes-out, clear-misses, settle-read, settle-overtaken, settle-undecided, settle-decided, settle-past, settle-replaces, settle-misses, goes, stores, decides-on, creates}
 use Rattle.model.proofs.Memory.{Memory, view, entry, move, put, settled, fresh-pl}

@@ -21,7 +21,8 @@ use Rattle.cores.specs.declared.place.Place.{Place}
 use Rattle.cores.specs.declared.place.Place.the-variants.{Idle, Finished, Look, Begin, Clear, Settle}
 use Rattle.cores.specs.declared.place.Own.{Own}
 use Rattle.cores.specs.declared.place.Own.the-variants as own
-use Rattle.model.specs.Rules.{same-mark, home, entry-after, has-more, answer-of, after-last, after-clear-swap}
+use Rattle.model.specs.Rules.{same-mark, entry-after, has-more, answer-of, after-last, after-clear-swap}
+use Rattle.cores.specs.Cores.{home}
 use Rattle.model.specs.Step.{cleared-to}
 use Rattle.model.proofs.Memory.{Memory, entry, move, put}
 use Rattle.model.proofs.Facts.{Made, Current, Undecided, Matches, past, due, Live, Clears, Place-ok, Own-ok, Inv}

@@ -25,7 +25,7 @@ use Rattle.cores.specs.declared.place.Place.{Place}
 use Rattle.cores.specs.declared.place.Place.the-variants.{Idle, Finished, Look, Begin, Fetch, Make, Try, Decide, Clear, Settle}
 use Rattle.cores.specs.declared.place.Own.the-variants as own
 use Rattle.model.specs.Rules.{same-mark, first-entry, next-entry}
-use Rattle.model.specs.Refusals.{is-idle}
+use Rattle.cores.specs.Cores.{is-idle}
 use Rattle.model.proofs.Memory.{Memory, entry, move, put, settled, fresh-pl}
 use Rattle.model.proofs.Facts.{Made, Current, Undecided, Counted, Filled, Decided-as, wants, places, past, due, Unplaced, Decide-ok, Place-ok, Own-ok, Inv}
 use Rattle.model.proofs.Updates.{upd-same, upd-at}

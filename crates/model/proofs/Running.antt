@@ -22,7 +22,7 @@ use Rattle.cores.specs.declared.place.Place.the-variants.{Idle, Finished, Decid
 use Rattle.cores.specs.declared.place.Own.{Own}
 use Rattle.cores.specs.declared.place.Own.the-variants as own
 use Rattle.model.specs.Calls.{Call, starts, reads, steps, started-core}
-use Rattle.model.specs.Refusals.{is-finished}
+use Rattle.cores.specs.Cores.{is-finished}
 use Rattle.model.specs.Histories.{History, Called}
 use Rattle.model.specs.Plain.{Completed, Whole, Holds-expected}
 use Rattle.model.specs.Promises.{Starts, list, word, Finishes}

@@ -13,7 +13,8 @@ use Rattle.descriptor.specs.declared.contents.Placing.{Placing}
 use Rattle.descriptor.specs.Contents.{state-of}
 use Rattle.cores.specs.declared.place.Place.{Place}
 use Rattle.cores.specs.declared.table.Core.{Core}
-use Rattle.model.specs.World.{World, new-core, core-at, with-core, with-place}
+use Rattle.model.specs.World.{World, core-at, with-core}
+use Rattle.cores.specs.Cores.{new-core, with-place}
 use Rattle.model.specs.Shown.{entries-of}
 use Rattle.model.specs.Relation.{goes, stores, decides-on, creates, Current}
 use Rattle.model.proofs.Memory.{Memory, view, upd, move, put, settled, fresh-pl}

@@ -18,12 +18,12 @@ use Rattle.cores.specs.declared.table.Core.{Core}
 use Rattle.cores.specs.declared.table.Table.{Table}
 use Rattle.cores.specs.declared.table.Setting.{Setting}
 use Rattle.cores.specs.declared.table.Refusal.{Refusal}
-use Rattle.model.specs.World.{World, new-core, core-at, with-core}
-use Rattle.model.specs.Rules.{home}
+use Rattle.model.specs.World.{World, core-at, with-core}
+use Rattle.cores.specs.Cores.{new-core, home, is-finished, started, collected, halted, answer-in}
 use Rattle.model.specs.Step.{step-world}
 use Rattle.model.specs.Shown.{shown-value, plain-words}
 use Rattle.model.specs.Calls.{Call, starts, reads, steps, collects, halts, shows, raws, opens}
-use Rattle.model.specs.Refusals.{refusal-of, is-finished}
+use Rattle.model.specs.Refusals.{refusal-of}
 
 -- What every call answers and what it leaves.
 
@@ -39,35 +39,8 @@ opened-table s =
 abbrev pub opened : World → Setting → World
 opened w s = record { words = w .words; table = opened-table s }
 
--- Start: every accepted start, of a read too, creates the core's operation descriptor. Departure: a read creates a descriptor too; it has no
--- entries. The core is at the first place of its operation.
-abbrev pub started : Core → Own → Option Entries → Core
-started c mine l =
-    record { place = home mine; own = mine; halted = c .halted; operation = created (c .operation) (undecided l); placing = c .placing }
-
 abbrev pub start-number : World → ℕ → ℕ
 start-number w k = core-at w k .operation .last + 1
-
--- Collect: the core is idle.
-abbrev pub collected : Core → Core
-collected c = record { place = Idle; own = own.Nothing; halted = c .halted; operation = c .operation; placing = c .placing }
-
--- Halt: the core is stopped where it stands.
-abbrev pub halted : Core → Core
-halted c = record { place = c .place; own = c .own; halted = true; operation = c .operation; placing = c .placing }
-
--- the answer that a finished core holds
-abbrev pub answer-in : Place → ℕ
-answer-in (Finished v) = v
-answer-in Idle = 0
-answer-in (Look i) = 0
-answer-in (Begin m) = 0
-answer-in (Fetch t) = 0
-answer-in (Make t e) = 0
-answer-in (Try t e m) = 0
-answer-in (Decide t o) = 0
-answer-in (Clear t o c) = 0
-answer-in (Settle m c k) = 0
 
 -- A call that is not refused.
 abbrev pub granted : World → Call → Performed

@@ -14,6 +14,7 @@ use Rattle.word.specs.Word.{reading-of}
 use Rattle.descriptor.specs.Descriptors.{last-number}
 use Rattle.cores.specs.declared.place.Place.{Place}
 use Rattle.cores.specs.declared.place.Place.the-variants.{Idle, Finished, Look, Begin, Fetch, Make, Try, Decide, Clear, Settle}
+use Rattle.cores.specs.Cores.{is-idle, is-finished, is-making}
 use Rattle.cores.specs.declared.table.Setting.{Setting}
 use Rattle.cores.specs.declared.table.Refusal.{Refusal}
 use Rattle.cores.specs.declared.table.Refusal.the-variants.{Closed, Open, Setting as Bad-setting, Tagged, NoCore, Halted, Busy, AtRest, List as Bad-list, NoWord, NoRight, UsedUp, NoAnswer, File}
@@ -38,43 +39,6 @@ number-of NoRight = 11
 number-of UsedUp = 12
 number-of NoAnswer = 13
 number-of (File place) = 14
-
--- where a core stands
-abbrev pub is-idle : Place → Bool
-is-idle Idle = true
-is-idle (Finished v) = false
-is-idle (Look i) = false
-is-idle (Begin m) = false
-is-idle (Fetch t) = false
-is-idle (Make t e) = false
-is-idle (Try t e m) = false
-is-idle (Decide t o) = false
-is-idle (Clear t o c) = false
-is-idle (Settle m c k) = false
-
-abbrev pub is-finished : Place → Bool
-is-finished (Finished v) = true
-is-finished Idle = false
-is-finished (Look i) = false
-is-finished (Begin m) = false
-is-finished (Fetch t) = false
-is-finished (Make t e) = false
-is-finished (Try t e m) = false
-is-finished (Decide t o) = false
-is-finished (Clear t o c) = false
-is-finished (Settle m c k) = false
-
-abbrev pub is-making : Place → Bool
-is-making (Make t e) = true
-is-making Idle = false
-is-making (Finished v) = false
-is-making (Look i) = false
-is-making (Begin m) = false
-is-making (Fetch t) = false
-is-making (Try t e m) = false
-is-making (Decide t o) = false
-is-making (Clear t o c) = false
-is-making (Settle m c k) = false
 
 abbrev pub is-plain : Word → Bool
 is-plain (word.Plain v) = true

@@ -23,8 +23,9 @@ use Rattle.cores.specs.declared.place.Clearing.the-variants as clearing
 use Rattle.cores.specs.declared.place.Settling.the-variants as settling
 use Rattle.cores.specs.declared.place.Place.{Place}
 use Rattle.cores.specs.declared.place.Place.the-variants.{Finished, Look, Begin, Fetch, Make, Try, Decide, Clear, Settle}
-use Rattle.model.specs.World.{World, core-at, with-words, with-core, with-operation, with-placing}
-use Rattle.model.specs.Rules.{home, first-entry, next-entry, after-clear-swap, resume}
+use Rattle.model.specs.World.{World, core-at, with-words, with-core}
+use Rattle.cores.specs.Cores.{with-operation, with-placing, home}
+use Rattle.model.specs.Rules.{first-entry, next-entry, after-clear-swap, resume}
 use Rattle.model.specs.Step.{cleared-to, settled-to, arrive}
 use Rattle.model.specs.Calls.{steps}
 use Rattle.model.specs.Refusals.{refusal-of}

@@ -24,6 +24,7 @@ use Rattle.cores.specs.declared.place.Clearing.{Clearing}
 use Rattle.cores.specs.declared.place.Clearing.the-variants as clearing
 use Rattle.cores.specs.declared.place.Settling.{Settling}
 use Rattle.cores.specs.declared.place.Settling.the-variants as settling
+use Rattle.cores.specs.Cores.{home}
 use Rattle.cores.specs.declared.place.Place.{Place}
 use Rattle.cores.specs.declared.place.Place.the-variants.{Idle, Finished, Look, Begin, Fetch, Make, Try, Decide, Clear, Settle}
 use Rattle.cores.specs.declared.place.Own.{Own}
@@ -45,12 +46,6 @@ by-sight None stay go = stay
 abbrev pub through-mark : {X : Type 0} → Result X Overtaken → Place → (X → Place) → Place
 through-mark (Ok x) over go = go x
 through-mark (Err e) over go = over
-
--- Home: the first place of the core's own operation.
-abbrev pub home : Own → Place
-home own.Nothing = Idle
-home (own.Read i) = Look i
-home (own.List m) = Begin m
 
 -- the work on the first entry of an operation, and on the entry after this one
 abbrev pub first-entry : Mark → ℕ → Work

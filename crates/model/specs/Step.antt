@@ -27,8 +27,9 @@ use Rattle.cores.specs.declared.place.Settling.the-variants as settling
 use Rattle.cores.specs.declared.place.Place.{Place}
 use Rattle.cores.specs.declared.place.Place.the-variants.{Idle, Finished, Look, Begin, Fetch, Make, Try, Decide, Clear, Settle}
 use Rattle.cores.specs.declared.place.Own.{Own}
-use Rattle.model.specs.World.{World, core-at, word-at, operation-at, placing-at, with-words, with-core, with-place, with-operation, with-placing}
-use Rattle.model.specs.Rules.{by-sight, through-mark, home, after-look, after-begin, after-try, after-decide, outcome-after, after-clear-load, after-clear-swap, resume, is-undecided}
+use Rattle.model.specs.World.{World, core-at, word-at, operation-at, placing-at, with-words, with-core}
+use Rattle.cores.specs.Cores.{with-place, with-operation, with-placing, home}
+use Rattle.model.specs.Rules.{by-sight, through-mark, after-look, after-begin, after-try, after-decide, outcome-after, after-clear-load, after-clear-swap, resume, is-undecided}
 
 -- A granted step: the core at its place makes one access, which may change one thing in the world, and goes to its next place.
 

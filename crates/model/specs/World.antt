@@ -20,6 +20,7 @@ use Rattle.cores.specs.declared.place.Place.{Place}
 use Rattle.cores.specs.declared.place.Place.the-variants.{Idle}
 use Rattle.cores.specs.declared.place.Own.{Own}
 use Rattle.cores.specs.declared.place.Own.the-variants as own
+use Rattle.cores.specs.Cores.{new-core}
 use Rattle.cores.specs.declared.table.Core.{Core}
 use Rattle.cores.specs.declared.table.Table.{Table}
 
@@ -27,11 +28,6 @@ use Rattle.cores.specs.declared.table.Table.{Table}
 pub record World : Type 0 where
   pub words : List ℕ
   pub table : Table
-
--- a core before its first operation, where numbers begin at first: idle, not halted, nothing created
-abbrev pub new-core : ℕ → Core
-new-core first =
-    record { place = Idle; own = own.Nothing; halted = false; operation = fresh first (undecided None); placing = fresh first (record { operation = record { core = 0; number = 0 }; word = 0; expected = 0 }) }
 
 -- what core k keeps
 abbrev pub core-at : World → ℕ → Core
@@ -58,12 +54,3 @@ with-cores t cs = record { running = t .running; count = t .count; protected = t
 abbrev pub with-core : World → ℕ → Core → World
 with-core w k c = record { words = w .words; table = with-cores (w .table) (set (w .table .cores) k c) }
 
--- The core with another place, another descriptor of each kind.
-abbrev pub with-place : Core → Place → Core
-with-place c p = record { place = p; own = c .own; halted = c .halted; operation = c .operation; placing = c .placing }
-
-abbrev pub with-operation : Core → Descriptor Operation → Core
-with-operation c d = record { place = c .place; own = c .own; halted = c .halted; operation = d; placing = c .placing }
-
-abbrev pub with-placing : Core → Descriptor Placing → Core
-with-placing c d = record { place = c .place; own = c .own; halted = c .halted; operation = c .operation; placing = d }

@@ -1,0 +1,103 @@
+use mathlib.Core.Bool.{Bool, true, false}
+use Prim.Native.Nat.{ℕ}
+use Rattle.std.specs.declared.option.Option.{Option}
+use Rattle.std.specs.declared.option.Option.the-variants.{None}
+use Rattle.word.specs.declared.Mark.{Mark}
+use Rattle.entries.specs.declared.list.Entries.{Entries}
+use Rattle.descriptor.specs.declared.Descriptor.{Descriptor}
+use Rattle.descriptor.specs.declared.contents.Operation.{Operation}
+use Rattle.descriptor.specs.declared.contents.Placing.{Placing}
+use Rattle.descriptor.specs.Descriptors.{fresh, created}
+use Rattle.descriptor.specs.Contents.{undecided}
+use Rattle.cores.specs.declared.place.Place.{Place}
+use Rattle.cores.specs.declared.place.Place.the-variants.{Idle, Finished, Look, Begin, Fetch, Make, Try, Decide, Clear, Settle}
+use Rattle.cores.specs.declared.place.Own.{Own}
+use Rattle.cores.specs.declared.place.Own.the-variants as own
+use Rattle.cores.specs.declared.table.Core.{Core}
+
+-- One core: where it stands, and its record after each thing that is done to it.
+
+-- Home: the first place of the core's own operation.
+abbrev pub home : Own → Place
+home own.Nothing = Idle
+home (own.Read i) = Look i
+home (own.List m) = Begin m
+
+-- where a core stands
+abbrev pub is-idle : Place → Bool
+is-idle Idle = true
+is-idle (Finished v) = false
+is-idle (Look i) = false
+is-idle (Begin m) = false
+is-idle (Fetch t) = false
+is-idle (Make t e) = false
+is-idle (Try t e m) = false
+is-idle (Decide t o) = false
+is-idle (Clear t o c) = false
+is-idle (Settle m c k) = false
+
+abbrev pub is-finished : Place → Bool
+is-finished (Finished v) = true
+is-finished Idle = false
+is-finished (Look i) = false
+is-finished (Begin m) = false
+is-finished (Fetch t) = false
+is-finished (Make t e) = false
+is-finished (Try t e m) = false
+is-finished (Decide t o) = false
+is-finished (Clear t o c) = false
+is-finished (Settle m c k) = false
+
+abbrev pub is-making : Place → Bool
+is-making (Make t e) = true
+is-making Idle = false
+is-making (Finished v) = false
+is-making (Look i) = false
+is-making (Begin m) = false
+is-making (Fetch t) = false
+is-making (Try t e m) = false
+is-making (Decide t o) = false
+is-making (Clear t o c) = false
+is-making (Settle m c k) = false
+
+-- the answer that a finished core holds
+abbrev pub answer-in : Place → ℕ
+answer-in (Finished v) = v
+answer-in Idle = 0
+answer-in (Look i) = 0
+answer-in (Begin m) = 0
+answer-in (Fetch t) = 0
+answer-in (Make t e) = 0
+answer-in (Try t e m) = 0
+answer-in (Decide t o) = 0
+answer-in (Clear t o c) = 0
+answer-in (Settle m c k) = 0
+
+-- a core before its first operation, where numbers begin at first: idle, not halted, nothing created
+abbrev pub new-core : ℕ → Core
+new-core first =
+    record { place = Idle; own = own.Nothing; halted = false; operation = fresh first (undecided None); placing = fresh first (record { operation = record { core = 0; number = 0 }; word = 0; expected = 0 }) }
+
+-- The core with another place, another descriptor of each kind.
+abbrev pub with-place : Core → Place → Core
+with-place c p = record { place = p; own = c .own; halted = c .halted; operation = c .operation; placing = c .placing }
+
+abbrev pub with-operation : Core → Descriptor Operation → Core
+with-operation c d = record { place = c .place; own = c .own; halted = c .halted; operation = d; placing = c .placing }
+
+abbrev pub with-placing : Core → Descriptor Placing → Core
+with-placing c d = record { place = c .place; own = c .own; halted = c .halted; operation = c .operation; placing = d }
+
+-- Start: every accepted start, of a read too, creates the core's operation descriptor. Departure: a read creates a descriptor too; it has no
+-- entries. The core is at the first place of its operation.
+abbrev pub started : Core → Own → Option Entries → Core
+started c mine l =
+    record { place = home mine; own = mine; halted = c .halted; operation = created (c .operation) (undecided l); placing = c .placing }
+
+-- Collect: the core is idle.
+abbrev pub collected : Core → Core
+collected c = record { place = Idle; own = own.Nothing; halted = c .halted; operation = c .operation; placing = c .placing }
+
+-- Halt: the core is stopped where it stands.
+abbrev pub halted : Core → Core
+halted c = record { place = c .place; own = c .own; halted = true; operation = c .operation; placing = c .placing }

@@ -1,14 +1,20 @@
-use mathlib.Core.Bool.{Bool, true, false}
+use mathlib.Core.Bool.{Bool, true, false, cond}
 use Prim.Native.Nat.{ℕ}
+use lib.Dec.{ltb}
 use Rattle.std.specs.declared.option.Option.{Option}
-use Rattle.std.specs.declared.option.Option.the-variants.{None}
+use Rattle.std.specs.declared.option.Option.the-variants.{Some, None}
+use Rattle.std.specs.declared.result.Result.{Result}
+use Rattle.std.specs.declared.result.Result.the-variants.{Ok, Err}
 use Rattle.word.specs.declared.Mark.{Mark}
 use Rattle.entries.specs.declared.list.Entries.{Entries}
 use Rattle.descriptor.specs.declared.Descriptor.{Descriptor}
+use Rattle.descriptor.specs.declared.Overtaken.{Overtaken}
+use Rattle.descriptor.specs.declared.contents.State.{State}
+use Rattle.descriptor.specs.declared.contents.Outcome.{Outcome}
 use Rattle.descriptor.specs.declared.contents.Operation.{Operation}
 use Rattle.descriptor.specs.declared.contents.Placing.{Placing}
-use Rattle.descriptor.specs.Descriptors.{fresh, created}
-use Rattle.descriptor.specs.Contents.{undecided}
+use Rattle.descriptor.specs.Descriptors.{last-number, fresh, created, changed}
+use Rattle.descriptor.specs.Contents.{undecided, with-outcome}
 use Rattle.cores.specs.declared.place.Place.{Place}
 use Rattle.cores.specs.declared.place.Place.the-variants.{Idle, Finished, Look, Begin, Fetch, Make, Try, Decide, Clear, Settle}
 use Rattle.cores.specs.declared.place.Own.{Own}
@@ -101,3 +107,23 @@ collected c = record { place = Idle; own = own.Nothing; halted = c .halted; oper
 -- Halt: the core is stopped where it stands.
 abbrev pub halted : Core → Core
 halted c = record { place = c .place; own = c .own; halted = true; operation = c .operation; placing = c .placing }
+
+-- What a collect answers: nothing of a core that is not finished, and that one stays as it is.
+abbrev pub collection : Core → Option ℕ
+collection c = cond (is-finished (c .place)) (Some (answer-in (c .place))) None
+
+abbrev pub after-collect : Core → Core
+after-collect c = cond (is-finished (c .place)) (collected c) c
+
+-- A core that has taken its last number starts nothing, and stays as it is.
+abbrev pub after-start : Core → Own → Option Entries → Core
+after-start c mine l = cond (ltb (c .operation .last) last-number) (started c mine l) c
+
+-- A decision through a mark's number: the operation is decided, unless it is already or the number is overtaken.
+abbrev pub after-decision : Core → ℕ → Outcome → Core
+after-decision c n o = with-operation c (changed (λ p. with-outcome p o) (c .operation) n)
+
+-- the state that it had
+abbrev pub state-read : Result Operation Overtaken → Result State Overtaken
+state-read (Ok o) = Ok (o .state)
+state-read (Err e) = Err e

@@ -4,15 +4,15 @@ ghost use Rattle.model.specs.Rules.{same-mark, next-entry, after-look, after-be
 ghost use Rattle.cores.specs.Cores.{home};
 ghost use Rattle.machine.specs.Next.{clear-next, settle-next, next-place};
 use super::seen::Seen;
-use descriptor::Outcome;
-use descriptor::State;
-use entries::Entry;
 use cores::place::Clearing;
 use cores::place::Own;
 use cores::place::Place;
 use cores::place::Settling;
 use cores::place::Then;
 use cores::place::Work;
+use descriptor::Outcome;
+use descriptor::State;
+use entries::Entry;
 use word::Mark;
 use word::Word;
 

@@ -53,4 +53,3 @@ with-cores t cs = record { running = t .running; count = t .count; protected = t
 
 abbrev pub with-core : World → ℕ → Core → World
 with-core w k c = record { words = w .words; table = with-cores (w .table) (set (w .table .cores) k c) }
-

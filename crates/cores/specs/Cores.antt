@@ -6,6 +6,7 @@ use Rattle.std.specs.declared.option.Option.the-variants.{Some, None}
 use Rattle.std.specs.declared.result.Result.{Result}
 use Rattle.std.specs.declared.result.Result.the-variants.{Ok, Err}
 use Rattle.word.specs.declared.Mark.{Mark}
+use Rattle.entries.specs.declared.Entry.{Entry}
 use Rattle.entries.specs.declared.list.Entries.{Entries}
 use Rattle.descriptor.specs.declared.Descriptor.{Descriptor}
 use Rattle.descriptor.specs.declared.Overtaken.{Overtaken}
@@ -14,7 +15,7 @@ use Rattle.descriptor.specs.declared.contents.Outcome.{Outcome}
 use Rattle.descriptor.specs.declared.contents.Operation.{Operation}
 use Rattle.descriptor.specs.declared.contents.Placing.{Placing}
 use Rattle.descriptor.specs.Descriptors.{last-number, fresh, created, changed}
-use Rattle.descriptor.specs.Contents.{undecided, with-outcome}
+use Rattle.descriptor.specs.Contents.{undecided, with-outcome, count-of, entry-in}
 use Rattle.cores.specs.declared.place.Place.{Place}
 use Rattle.cores.specs.declared.place.Place.the-variants.{Idle, Finished, Look, Begin, Fetch, Make, Try, Decide, Clear, Settle}
 use Rattle.cores.specs.declared.place.Own.{Own}
@@ -123,7 +124,15 @@ after-start c mine l = cond (ltb (c .operation .last) last-number) (started c mi
 abbrev pub after-decision : Core → ℕ → Outcome → Core
 after-decision c n o = with-operation c (changed (λ p. with-outcome p o) (c .operation) n)
 
--- the state that it had
+-- What is read of an operation: its state; its state and count; one entry.
 abbrev pub state-read : Result Operation Overtaken → Result State Overtaken
 state-read (Ok o) = Ok (o .state)
 state-read (Err e) = Err e
+
+abbrev pub begin-read : Result Operation Overtaken → Result (State × ℕ) Overtaken
+begin-read (Ok o) = Ok (o .state, count-of (o .list))
+begin-read (Err e) = Err e
+
+abbrev pub entry-read : ℕ → Result Operation Overtaken → Result (Option Entry) Overtaken
+entry-read i (Ok o) = Ok (entry-in (o .list) i)
+entry-read i (Err e) = Err e

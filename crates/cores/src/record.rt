@@ -3,7 +3,7 @@ ghost use mathlib.Core.Path.{_≡_};
 ghost use Rattle.std.specs.declared.option.Option.the-variants.{Some, None};
 ghost use Rattle.descriptor.specs.Descriptors.{reading, creation, created};
 ghost use Rattle.cores.specs.declared.place.Own.the-variants.{Read, List};
-ghost use Rattle.cores.specs.Cores.{is-idle, is-finished, new-core, with-place, with-placing, halted, collection, after-collect, after-start, after-decision, state-read};
+ghost use Rattle.cores.specs.Cores.{is-idle, is-finished, new-core, with-place, with-placing, halted, collection, after-collect, after-start, after-decision, state-read, begin-read, entry-read};
 ghost use Prim.Native.Nat.{_+_};
 use super::place::Own;
 use super::place::Place;
@@ -18,6 +18,7 @@ use descriptor::Placing;
 use descriptor::State;
 use descriptor::UsedUp;
 use entries::Entries;
+use entries::Entry;
 use word::Mark;
 
 impl Core {
@@ -86,6 +87,35 @@ impl Core {
         ensures after { λ _. ⌜ now (self .exit) ≡ with-placing (now (self .entry)) (created (now (self .entry) .placing) contents) ⌝ }
     {
         self.placing.create(contents)
+    }
+
+    /// The state and count of the operation of this number.
+    pub fn operation(&self, number: u64) -> Result<(State, u8), Overtaken>
+        ensures { λ r. ⌜ r ≡ begin-read (reading (now (self .entry) .operation) number) ⌝ }
+    {
+        let operation = self.operation.read(number)?;
+        Ok((operation.state(), operation.count()))
+    }
+
+    /// Entry `i` of the operation of this number, if there are that many.
+    pub fn entry(&self, number: u64, i: u8) -> Result<Option<Entry>, Overtaken>
+        ensures { λ r. ⌜ r ≡ entry-read i (reading (now (self .entry) .operation) number) ⌝ }
+    {
+        Ok(self.operation.read(number)?.entry(i))
+    }
+
+    /// The state of the operation of this number.
+    pub fn state(&self, number: u64) -> Result<State, Overtaken>
+        ensures { λ r. ⌜ r ≡ state-read (reading (now (self .entry) .operation) number) ⌝ }
+    {
+        Ok(self.operation.read(number)?.state())
+    }
+
+    /// The contents of the placing of this number.
+    pub fn placing(&self, number: u64) -> Result<Placing, Overtaken>
+        ensures { λ r. ⌜ r ≡ reading (now (self .entry) .placing) number ⌝ }
+    {
+        Ok(*self.placing.read(number)?)
     }
 
     /// Decides the operation of this number, unless it is decided; answers the state that it had.

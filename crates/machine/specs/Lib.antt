@@ -1,1 +1,3 @@
 pub mod Next
+pub mod Sight
+pub mod View

@@ -1,3 +1,6 @@
 //! The machine: up to 8 cores over any bank.
+mod machine;
 mod rules;
 mod seen;
+
+pub use machine::Machine;

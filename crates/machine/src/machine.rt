@@ -1,0 +1,146 @@
+//! The machine over any bank.
+ghost use mathlib.Core.Path.{_≡_};
+ghost use Prim.Native.Nat.{_<_};
+ghost use Rattle.model.specs.World.{word-at, operation-at, placing-at, with-words};
+ghost use Rattle.model.specs.Step.{cleared-to, settled-to, step-change, change-world, swaps, decides};
+ghost use Rattle.machine.specs.Sight.{tabled, word-sight, operation-sight, entry-sight, state-sight, placing-sight, sight};
+ghost use Rattle.machine.specs.View.{view};
+use super::seen::Seen;
+use bank::Bank;
+use cores::place::Clearing;
+use cores::place::Place;
+use cores::place::Settling;
+use cores::place::Work;
+use cores::table::Table;
+use descriptor::Outcome;
+use descriptor::Placing;
+use entries::Entry;
+use word::Mark;
+use word::Word;
+
+/// Up to 8 cores over a bank of words.
+#[derive(Drop)]
+pub struct Machine<B: Bank> {
+    bank: B,
+    table: Table,
+}
+
+/// What Clear puts back into a word.
+fn cleared(outcome: Outcome, entry: Entry) -> Word
+    ensures { λ r. ⌜ r ≡ cleared-to outcome entry ⌝ }
+{
+    match outcome {
+        Outcome::Succeeded => Word::Plain(entry.new),
+        Outcome::Failed(_) => Word::Plain(entry.expected),
+    }
+}
+
+/// What Settle puts into a word.
+fn settled(undecided: bool, placing: Placing) -> Word
+    ensures { λ r. ⌜ r ≡ settled-to undecided placing ⌝ }
+{
+    if undecided {
+        Word::Operation(placing.operation)
+    } else {
+        Word::Plain(placing.expected)
+    }
+}
+
+/// The state and count of the operation under the mark.
+fn operation(table: &Table, mark: Mark) -> Seen
+    ensures { λ r. ⌜ r ≡ operation-sight (operation-at (tabled (now (table .entry))) mark) ⌝ }
+{
+    if mark.core >= 8 {
+        return Seen::Overtaken;
+    }
+    match table.cores[mark.core as usize].operation(mark.number) {
+        Ok((state, count)) => Seen::Operation(state, count),
+        Err(_) => Seen::Overtaken,
+    }
+}
+
+/// The entry that the work is on.
+fn entry(table: &Table, work: Work) -> Seen
+    ensures { λ r. ⌜ r ≡ entry-sight (work .index) (operation-at (tabled (now (table .entry))) (work .operation)) ⌝ }
+{
+    let Work {
+        operation,
+        index,
+        ..
+    } = work;
+    if operation.core >= 8 {
+        return Seen::Overtaken;
+    }
+    match table
+        .cores[operation.core as usize]
+        .entry(operation.number, index) {
+        Ok(Some(entry)) => Seen::Entry(entry),
+        Ok(None) => Seen::Nothing,
+        Err(_) => Seen::Overtaken,
+    }
+}
+
+/// The state of the operation under the mark.
+fn state(table: &Table, mark: Mark) -> Seen
+    ensures { λ r. ⌜ r ≡ state-sight (operation-at (tabled (now (table .entry))) mark) ⌝ }
+{
+    if mark.core >= 8 {
+        return Seen::Overtaken;
+    }
+    match table.cores[mark.core as usize].state(mark.number) {
+        Ok(state) => Seen::State(state),
+        Err(_) => Seen::Overtaken,
+    }
+}
+
+/// The contents of the placing under the mark.
+fn placing(table: &Table, mark: Mark) -> Seen
+    ensures { λ r. ⌜ r ≡ placing-sight (placing-at (tabled (now (table .entry))) mark) ⌝ }
+{
+    if mark.core >= 8 {
+        return Seen::Overtaken;
+    }
+    match table.cores[mark.core as usize].placing(mark.number) {
+        Ok(contents) => Seen::Placing(contents),
+        Err(_) => Seen::Overtaken,
+    }
+}
+
+impl<B: Bank> Machine<B> {
+    /// The word at `at`.
+    fn load(&self, at: u64) -> Seen
+        ensures { λ r. ⌜ r ≡ word-sight (word-at (view (B·Bank .words) (now (self .entry))) at) ⌝ }
+    {
+        match self.bank.load(at) {
+            Ok(raw) => Seen::Word(Word::read(raw)),
+            Err(_) => Seen::Nothing,
+        }
+    }
+
+    /// The word at `at`, which becomes `new` where it says `old`.
+    fn swap(&mut self, at: u64, old: Word, new: Word) -> Seen
+        ensures answer { λ r. ⌜ r ≡ word-sight (word-at (view (B·Bank .words) (now (self .entry))) at) ⌝ }
+        ensures after { λ _. ⌜ view (B·Bank .words) (now (self .exit)) ≡ change-world (view (B·Bank .words) (now (self .entry))) 0 (swaps at old new) ⌝ }
+    {
+        match self.bank.swap(at, old.raw(), new.raw()) {
+            Ok(raw) => Seen::Word(Word::read(raw)),
+            Err(_) => Seen::Nothing,
+        }
+    }
+
+    /// Decides the operation under the mark, unless it is overtaken or decided; the state that it had.
+    fn decide(&mut self, mark: Mark, outcome: Outcome) -> Seen
+        ensures answer { λ r. ⌜ r ≡ state-sight (operation-at (view (B·Bank .words) (now (self .entry))) mark) ⌝ }
+        ensures after { λ _. ⌜ view (B·Bank .words) (now (self .exit)) ≡ change-world (view (B·Bank .words) (now (self .entry))) 0 (decides mark outcome) ⌝ }
+    {
+        if mark.core >= 8 {
+            return Seen::Overtaken;
+        }
+        match self.table
+            .cores[mark.core as usize]
+            .decide(mark.number, outcome) {
+            Ok(state) => Seen::State(state),
+            Err(_) => Seen::Overtaken,
+        }
+    }
+}

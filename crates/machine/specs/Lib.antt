@@ -1,3 +1,4 @@
 pub mod Next
 pub mod Sight
+pub mod Admission
 pub mod View

@@ -1,9 +1,10 @@
 //! The machine over any bank.
 ghost use mathlib.Core.Path.{_≡_};
 ghost use Prim.Native.Nat.{_<_};
-ghost use Rattle.model.specs.World.{word-at, operation-at, placing-at, with-words};
-ghost use Rattle.model.specs.Step.{cleared-to, settled-to, step-change, change-world, swaps, decides};
-ghost use Rattle.machine.specs.Sight.{tabled, word-sight, operation-sight, entry-sight, state-sight, placing-sight, sight};
+ghost use Rattle.descriptor.specs.Descriptors.{creation};
+ghost use Rattle.model.specs.World.{core-at, word-at, operation-at, placing-at};
+ghost use Rattle.model.specs.Step.{cleared-to, settled-to, step-change, change-world, swaps, decides, makes};
+ghost use Rattle.machine.specs.Sight.{tabled, word-sight, operation-sight, entry-sight, state-sight, placing-sight, made-sight, sight};
 ghost use Rattle.machine.specs.View.{view};
 use super::seen::Seen;
 use bank::Bank;
@@ -141,6 +142,68 @@ impl<B: Bank> Machine<B> {
             .decide(mark.number, outcome) {
             Ok(state) => Seen::State(state),
             Err(_) => Seen::Overtaken,
+        }
+    }
+
+    /// Creates core `core`'s placing descriptor anew.
+    fn make(&mut self, core: u8, contents: Placing) -> Seen
+        requires { ⌜ core < 8 ⌝ }
+        ensures answer { λ r. ⌜ r ≡ made-sight core (creation (core-at (view (B·Bank .words) (now (self .entry))) core .placing)) ⌝ }
+        ensures after { λ _. ⌜ view (B·Bank .words) (now (self .exit)) ≡ change-world (view (B·Bank .words) (now (self .entry))) core (makes contents) ⌝ }
+    {
+        match self.table.cores[core as usize].make(contents) {
+            Ok(number) => Seen::Made(Mark { core, number }),
+            Err(_) => Seen::Nothing,
+        }
+    }
+
+    /// The one access of a step from the place.
+    fn access(&mut self, core: u8, place: Place) -> Seen
+        requires { ⌜ core < 8 ⌝ }
+        ensures answer { λ r. ⌜ r ≡ sight (view (B·Bank .words) (now (self .entry))) core place ⌝ }
+        ensures after { λ _. ⌜ view (B·Bank .words) (now (self .exit)) ≡ change-world (view (B·Bank .words) (now (self .entry))) core (step-change place) ⌝ }
+    {
+        match place {
+            Place::Idle | Place::Finished(_) => Seen::Nothing,
+            Place::Look(at) => self.load(at),
+            Place::Begin(mark) => operation(&self.table, mark),
+            Place::Fetch(work) => entry(&self.table, work),
+            Place::Make(work, entry) => {
+                let Entry { word, expected, .. } = entry;
+                let operation = work.operation;
+                self.make(
+                    core,
+                    Placing {
+                        operation,
+                        word,
+                        expected,
+                    },
+                )
+            }
+            Place::Try(_, entry, mark) => self.swap(
+                entry.word,
+                Word::Plain(entry.expected),
+                Word::Placing(mark),
+            ),
+            Place::Decide(work, outcome) => self.decide(work.operation, outcome),
+            Place::Clear(work, _, Clearing::Read) => entry(&self.table, work),
+            Place::Clear(_, _, Clearing::Load(entry)) => self.load(entry.word),
+            Place::Clear(work, outcome, Clearing::Swap(entry)) => {
+                self.swap(
+                    entry.word,
+                    Word::Operation(work.operation),
+                    cleared(outcome, entry),
+                )
+            }
+            Place::Settle(mark, Settling::Read, _) => placing(&self.table, mark),
+            Place::Settle(_, Settling::State(placing), _) => state(&self.table, placing.operation),
+            Place::Settle(mark, Settling::Swap(placing, undecided), _) => {
+                self.swap(
+                    placing.word,
+                    Word::Placing(mark),
+                    settled(undecided, placing),
+                )
+            }
         }
     }
 }

@@ -151,3 +151,69 @@ impl Core {
         Ok(number)
     }
 }
+
+#[cfg(test)]
+mod tests {
+    use super::*;
+    use descriptor::LAST_NUMBER;
+    use descriptor::OvertakenDebug;
+    use descriptor::UsedUpDebug;
+    use std::test::*;
+    use word::MarkDebug;
+    use word::MarkPartialEq;
+
+    #[test]
+    fn a_start_takes_the_first_number() -> Result<(), Fail> {
+        let mut kept = Core::new(5);
+        check(kept.is_idle())?;
+        check_eq(kept.start_list(2, Entries::new())?, 5)?;
+        check(!kept.is_idle())?;
+        check(!kept.is_finished())?;
+        match kept.place {
+            Place::Begin(mark) => check_eq(mark, Mark { core: 2, number: 5 }),
+            _ => Err(Fail::new("not at Begin")),
+        }
+    }
+
+    #[test]
+    fn an_idle_core_has_no_answer() -> Result<(), Fail> {
+        let mut kept = Core::new(1);
+        check(kept.collect().is_none())?;
+        check(kept.is_idle())
+    }
+
+    #[test]
+    fn used_up_numbers_start_nothing() -> Result<(), Fail> {
+        let mut kept = Core::new(LAST_NUMBER);
+        check_eq(kept.start_read(0)?, LAST_NUMBER)?;
+        kept.arrive(Place::Finished(9));
+        check_eq(kept.collect().unwrap_or(0), 9)?;
+        check(kept.start_read(0).is_err())?;
+        check(kept.start_list(0, Entries::new()).is_err())?;
+        check(kept.is_idle())
+    }
+
+    #[test]
+    fn an_old_number_decides_nothing() -> Result<(), Fail> {
+        let mut kept = Core::new(1);
+        let old = kept.start_list(0, Entries::new())?;
+        let newest = kept.start_list(0, Entries::new())?;
+        check(kept.decide(old, Outcome::Succeeded).is_err())?;
+        match kept.operation.read(newest)?.state() {
+            State::Undecided => Ok(()),
+            _ => Err(Fail::new("altered")),
+        }
+    }
+
+    #[test]
+    fn the_first_outcome_stays() -> Result<(), Fail> {
+        let mut kept = Core::new(1);
+        let number = kept.start_list(0, Entries::new())?;
+        kept.decide(number, Outcome::Failed(3))?;
+        kept.decide(number, Outcome::Succeeded)?;
+        match kept.operation.read(number)?.state() {
+            State::Failed(i) => check_eq(i, 3),
+            _ => Err(Fail::new("not failed")),
+        }
+    }
+}

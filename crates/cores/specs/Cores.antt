@@ -1,6 +1,6 @@
-use mathlib.Core.Bool.{Bool, true, false, cond}
+use mathlib.Core.Bool.{Bool, true, false, cond, _&&_, _||_}
 use Prim.Native.Nat.{ℕ}
-use lib.Dec.{ltb}
+use lib.Dec.{ltb, leb}
 use Rattle.std.specs.declared.option.Option.{Option}
 use Rattle.std.specs.declared.option.Option.the-variants.{Some, None}
 use Rattle.std.specs.declared.result.Result.{Result}
@@ -21,6 +21,8 @@ use Rattle.cores.specs.declared.place.Place.the-variants.{Idle, Finished, Look
 use Rattle.cores.specs.declared.place.Own.{Own}
 use Rattle.cores.specs.declared.place.Own.the-variants as own
 use Rattle.cores.specs.declared.table.Core.{Core}
+use Rattle.cores.specs.declared.table.Refusal.{Refusal}
+use Rattle.cores.specs.declared.table.Refusal.the-variants.{AtRest, UsedUp}
 
 -- One core: where it stands, and its record after each thing that is done to it.
 
@@ -136,3 +138,8 @@ begin-read (Err e) = Err e
 abbrev pub entry-read : ℕ → Result Operation Overtaken → Result (Option Entry) Overtaken
 entry-read i (Ok o) = Ok (entry-in (o .list) i)
 entry-read i (Err e) = Err e
+
+-- Why a step of a core is refused, if it is.
+abbrev pub step-refused : Core → Option Refusal
+step-refused c =
+    cond (is-idle (c .place) || is-finished (c .place)) (Some AtRest) (cond (is-making (c .place) && leb last-number (c .placing .last)) (Some UsedUp) None)

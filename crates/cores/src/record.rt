@@ -3,11 +3,12 @@ ghost use mathlib.Core.Path.{_≡_};
 ghost use Rattle.std.specs.declared.option.Option.the-variants.{Some, None};
 ghost use Rattle.descriptor.specs.Descriptors.{reading, creation, created};
 ghost use Rattle.cores.specs.declared.place.Own.the-variants.{Read, List};
-ghost use Rattle.cores.specs.Cores.{is-idle, is-finished, new-core, with-place, with-placing, halted, collection, after-collect, after-start, after-decision, state-read, begin-read, entry-read};
+ghost use Rattle.cores.specs.Cores.{is-idle, is-finished, step-refused, new-core, with-place, with-placing, halted, collection, after-collect, after-start, after-decision, state-read, begin-read, entry-read};
 ghost use Prim.Native.Nat.{_+_};
 use super::place::Own;
 use super::place::Place;
 use super::table::Core;
+use super::table::Refusal;
 use descriptor::Decide;
 use descriptor::Deciding;
 use descriptor::Descriptor;
@@ -52,6 +53,17 @@ impl Core {
         ensures { λ r. ⌜ r ≡ is-finished (now (self .entry) .place) ⌝ }
     {
         matches!(self.place, Place::Finished(_))
+    }
+
+    /// Why a step of the core is refused, if it is: it is idle or finished, or a creation is due and every number is taken.
+    pub fn step_refusal(&self) -> Option<Refusal>
+        ensures { λ r. ⌜ r ≡ step-refused (now (self .entry)) ⌝ }
+    {
+        match self.place {
+            Place::Idle | Place::Finished(_) => Some(Refusal::AtRest),
+            Place::Make(_, _) if self.placing.is_used_up() => Some(Refusal::UsedUp),
+            _ => None,
+        }
     }
 
     /// The core arrives at a place.

@@ -1,7 +1,8 @@
 //! The reusable descriptor, a weak descriptor: contents of any type under a sequence number. Each creation takes the next
 //! number and overtakes every earlier one. (Weak descriptors: Arbel-Raviv and Brown, DISC 2017.)
 ghost use mathlib.Core.Path.{_≡_};
-ghost use Rattle.descriptor.specs.Descriptors.{fresh, creation, created, seen, reading, change-answer, changed};
+ghost use lib.Dec.{leb};
+ghost use Rattle.descriptor.specs.Descriptors.{last-number, fresh, creation, created, seen, reading, change-answer, changed};
 ghost use Rattle.descriptor.specs.Laws.{Laws};
 
 mod contents;
@@ -59,6 +60,13 @@ impl<T> Descriptor<T> {
         } else {
             Err(Overtaken)
         }
+    }
+
+    /// Whether every number is taken, so that a creation would be refused.
+    pub fn is_used_up(&self) -> bool
+        ensures { λ r. ⌜ r ≡ leb last-number (now (self .entry) .last) ⌝ }
+    {
+        LAST_NUMBER <= self.last
     }
 
     /// Makes the change, if the number is that of the newest creation.

@@ -1,2 +1,4 @@
 pub mod Places
 pub mod Refused
+pub mod Stepped
+pub mod Kept

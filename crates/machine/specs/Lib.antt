@@ -1,4 +1,5 @@
 pub mod Next
 pub mod Sight
 pub mod Admission
+pub mod Keeps
 pub mod View

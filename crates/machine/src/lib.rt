@@ -2,5 +2,3 @@
 mod machine;
 mod rules;
 mod seen;
-
-pub use machine::Machine;

@@ -3,15 +3,24 @@ ghost use mathlib.Core.Path.{_≡_};
 ghost use Prim.Native.Nat.{_<_};
 ghost use Rattle.descriptor.specs.Descriptors.{creation};
 ghost use Rattle.model.specs.World.{core-at, word-at, operation-at, placing-at};
-ghost use Rattle.model.specs.Step.{cleared-to, settled-to, step-change, change-world, swaps, decides, makes};
+ghost use Rattle.model.specs.Step.{cleared-to, settled-to, step-change, change-world, arrive, swaps, decides, makes};
 ghost use Rattle.machine.specs.Sight.{tabled, word-sight, operation-sight, entry-sight, state-sight, placing-sight, made-sight, sight};
+ghost use mathlib.Core.Bool.{cond};
+ghost use Rattle.std.specs.declared.option.Option.the-variants.{None};
+ghost use Rattle.cores.specs.Cores.{is-finished};
+ghost use Rattle.model.specs.Calls.{steps};
+ghost use Rattle.model.specs.Perform.{perform};
+ghost use Rattle.machine.specs.Admission.{admission as admission-of, step-refusal};
 ghost use Rattle.machine.specs.View.{view};
+use super::rules::next;
 use super::seen::Seen;
 use bank::Bank;
 use cores::place::Clearing;
+use cores::place::Own;
 use cores::place::Place;
 use cores::place::Settling;
 use cores::place::Work;
+use cores::table::Refusal;
 use cores::table::Table;
 use descriptor::Outcome;
 use descriptor::Placing;
@@ -104,6 +113,59 @@ fn placing(table: &Table, mark: Mark) -> Seen
     match table.cores[mark.core as usize].placing(mark.number) {
         Ok(contents) => Seen::Placing(contents),
         Err(_) => Seen::Overtaken,
+    }
+}
+
+/// Why a call that names the core is refused before anything else is looked at.
+fn admission(table: &Table, core: u8) -> Option<Refusal>
+    ensures is { λ r. ⌜ r ≡ admission-of (now (table .entry)) core ⌝ }
+    ensures there { λ r. ⌜ (r ≡ None → core < 8) ⌝ }
+{
+    if !table.running {
+        return Some(Refusal::Closed);
+    }
+    if core >= table.count || core >= 8 {
+        return Some(Refusal::NoCore);
+    }
+    if table.cores[core as usize].halted {
+        Some(Refusal::Halted)
+    } else {
+        None
+    }
+}
+
+/// Why a step of the core is refused.
+fn step_refusal(table: &Table, core: u8) -> Option<Refusal>
+    ensures is { λ r. ⌜ r ≡ step-refusal (now (table .entry)) core ⌝ }
+    ensures there { λ r. ⌜ (r ≡ None → core < 8) ⌝ }
+{
+    match admission(table, core) {
+        Some(refusal) => Some(refusal),
+        None => table.cores[core as usize].step_refusal(),
+    }
+}
+
+fn place_of(table: &Table, core: u8) -> Place
+    requires { ⌜ core < 8 ⌝ }
+    ensures { λ r. ⌜ r ≡ core-at (tabled (now (table .entry))) core .place ⌝ }
+{
+    table.cores[core as usize].place
+}
+
+fn own_of(table: &Table, core: u8) -> Own
+    requires { ⌜ core < 8 ⌝ }
+    ensures { λ r. ⌜ r ≡ core-at (tabled (now (table .entry))) core .own ⌝ }
+{
+    table.cores[core as usize].own
+}
+
+/// What a step to the place answers: 1 finished, 0 working.
+fn finished(place: Place) -> u64
+    ensures { λ r. ⌜ r ≡ cond (is-finished place) 1 0 ⌝ }
+{
+    match place {
+        Place::Finished(_) => 1,
+        _ => 0,
     }
 }
 
@@ -205,5 +267,28 @@ impl<B: Bank> Machine<B> {
                 )
             }
         }
+    }
+
+    /// The core arrives at the place: 1 where it is finished then, and otherwise 0.
+    fn arrive(&mut self, core: u8, place: Place) -> u64
+        requires { ⌜ core < 8 ⌝ }
+        ensures answer { λ r. ⌜ r ≡ cond (is-finished (core-at (arrive (view (B·Bank .words) (now (self .entry))) core place) core .place)) 1 0 ⌝ }
+        ensures after { λ _. ⌜ view (B·Bank .words) (now (self .exit)) ≡ arrive (view (B·Bank .words) (now (self .entry))) core place ⌝ }
+    {
+        self.table.cores[core as usize].arrive(place);
+        finished(place)
+    }
+
+    fn take_step(&mut self, core: u8) -> Result<u64, Refusal>
+        ensures answer { λ r. ⌜ r ≡ perform (view (B·Bank .words) (now (self .entry))) (steps core) .answer ⌝ }
+        ensures after { λ _. ⌜ view (B·Bank .words) (now (self .exit)) ≡ perform (view (B·Bank .words) (now (self .entry))) (steps core) .world ⌝ }
+    {
+        if let Some(refusal) = step_refusal(&self.table, core) {
+            return Err(refusal);
+        }
+        let place = place_of(&self.table, core);
+        let own = own_of(&self.table, core);
+        let seen = self.access(core, place);
+        Ok(self.arrive(core, next(place, own, seen)))
     }
 }

@@ -5,7 +5,6 @@ use Rattle.std.specs.declared.option.Option.{Option}
 use Rattle.std.specs.declared.option.Option.the-variants.{Some, None}
 use Rattle.std.specs.declared.result.Result.{Result}
 use Rattle.std.specs.declared.result.Result.the-variants.{Ok, Err}
-use Rattle.word.specs.declared.Mark.{Mark}
 use Rattle.entries.specs.declared.Entry.{Entry}
 use Rattle.entries.specs.declared.list.Entries.{Entries}
 use Rattle.descriptor.specs.declared.Descriptor.{Descriptor}

@@ -1,5 +1,4 @@
 use mathlib.Core.Bool.{cond, _||_}
-use mathlib.Core.List.{[]}
 use Prim.Native.Nat.{ℕ}
 use lib.Dec.{leb}
 use Rattle.std.specs.declared.option.Option.{Option}

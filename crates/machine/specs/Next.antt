@@ -1,4 +1,4 @@
-use mathlib.Core.Bool.{Bool, true, false}
+use mathlib.Core.Bool.{false}
 use Prim.Native.Nat.{ℕ}
 use Rattle.word.specs.declared.Mark.{Mark}
 use Rattle.word.specs.declared.Word.{Word}

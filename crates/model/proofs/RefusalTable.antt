@@ -14,7 +14,7 @@ use Rattle.descriptor.specs.Descriptors.{last-number}
 use Rattle.std.specs.declared.option.Option.{Option}
 use Rattle.std.specs.declared.option.Option.the-variants.{Some, None}
 use Rattle.std.specs.declared.result.Result.the-variants.{Ok, Err}
-use Rattle.std.proofs.shelf.Tests.{and-parts, and-from}
+use Rattle.std.proofs.shelf.Tests.{and-parts, and-from, cond-true, cond-false}
 use Rattle.cores.specs.declared.table.Refusal.{Refusal}
 use Rattle.cores.specs.declared.table.Refusal.the-variants.{Closed, Open, Setting as Bad-setting, Tagged, NoCore, Halted, Busy, AtRest, List as Bad-list, NoWord, NoRight, UsedUp, NoAnswer, File}
 use Rattle.model.specs.World.{World, core-at}
@@ -250,4 +250,6 @@ refusal-law =
       none-granted = λ w c none. let a = answered w c in (a .0, ap (λ (o : Option Refusal). unless-refused o w c .answer) (none-said w c none) ∙ a .1);
       changes-nothing = λ w c r e. ap (λ (o : Option Refusal). unless-refused o w c .world) (refused-by w c (refusal-of w c) r e);
       helping-needs-no-right = λ w k h. let n = h .1 in grind arith;
+      open-closes = λ w e. cond-true (w .table .running) _ _ e;
+      shut-refuses-close = λ w e. cond-false (w .table .running) _ _ e;
     }

@@ -1,8 +1,8 @@
 use mathlib.Core.Path.{_≡_}
 use mathlib.Core.List.{List, [], _∷_, _++_}
-use Prim.Native.Nat.{ℕ, _+_, _<_, _≤_}
+use Prim.Native.Nat.{ℕ, _+_, _<_}
 use lib.ListN.{length, getD}
-use Rattle.std.specs.declared.result.Result.the-variants.{Ok, Err}
+use Rattle.std.specs.declared.result.Result.the-variants.{Err}
 use Rattle.word.specs.declared.Mark.{Mark}
 use Rattle.word.specs.declared.Word.{Word}
 use Rattle.word.specs.declared.Word.the-variants as word
@@ -10,15 +10,12 @@ use Rattle.word.specs.Word.{reading-of, Made}
 use Rattle.descriptor.specs.Descriptors.{reading, change-answer, changed}
 use Rattle.descriptor.specs.declared.contents.Operation.{Operation}
 use Rattle.descriptor.specs.declared.contents.Placing.{Placing}
-use Rattle.cores.specs.declared.place.Work.{Work}
 use Rattle.cores.specs.declared.place.Then.{Then}
 use Rattle.cores.specs.declared.place.Then.the-variants as then
-use Rattle.cores.specs.declared.place.Clearing.{Clearing}
 use Rattle.cores.specs.declared.place.Settling.{Settling}
 use Rattle.cores.specs.declared.place.Settling.the-variants as settling
 use Rattle.cores.specs.declared.place.Place.{Place}
 use Rattle.cores.specs.declared.place.Place.the-variants.{Idle, Finished, Look, Begin, Fetch, Make, Try, Decide, Clear, Settle}
-use Rattle.cores.specs.declared.place.Own.{Own}
 use Rattle.cores.specs.declared.place.Own.the-variants as own
 use Rattle.model.specs.World.{World, core-at}
 use Rattle.model.specs.Histories.{History, world-at}

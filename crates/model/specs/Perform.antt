@@ -1,25 +1,19 @@
-use mathlib.Core.Bool.{Bool, true, false, cond}
-use mathlib.Core.List.{List, [], _∷_}
+use mathlib.Core.Bool.{true, false, cond}
+use mathlib.Core.List.{List}
 use Prim.Native.Nat.{ℕ}
 use lib.ListN.{getD, replicate}
 use Rattle.std.specs.declared.option.Option.{Option}
 use Rattle.std.specs.declared.option.Option.the-variants.{Some, None}
 use Rattle.std.specs.declared.result.Result.{Result}
 use Rattle.std.specs.declared.result.Result.the-variants.{Ok, Err}
-use Rattle.entries.specs.declared.list.Entries.{Entries}
-use Rattle.descriptor.specs.Descriptors.{created}
-use Rattle.descriptor.specs.Contents.{undecided}
 use Prim.Native.Nat.{_+_}
-use Rattle.cores.specs.declared.place.Place.{Place}
-use Rattle.cores.specs.declared.place.Place.the-variants.{Idle, Finished, Look, Begin, Fetch, Make, Try, Decide, Clear, Settle}
-use Rattle.cores.specs.declared.place.Own.{Own}
 use Rattle.cores.specs.declared.place.Own.the-variants as own
-use Rattle.cores.specs.declared.table.Core.{Core}
 use Rattle.cores.specs.declared.table.Table.{Table}
 use Rattle.cores.specs.declared.table.Setting.{Setting}
 use Rattle.cores.specs.declared.table.Refusal.{Refusal}
+use Rattle.cores.specs.declared.table.Refusal.the-variants.{Closed}
 use Rattle.model.specs.World.{World, core-at, with-core}
-use Rattle.cores.specs.Cores.{new-core, home, is-finished, started, collected, halted, answer-in}
+use Rattle.cores.specs.Cores.{new-core, is-finished, started, collected, halted, answer-in}
 use Rattle.model.specs.Step.{step-world}
 use Rattle.model.specs.Shown.{shown-value, plain-words}
 use Rattle.model.specs.Calls.{Call, starts, reads, steps, collects, halts, shows, raws, opens}
@@ -70,3 +64,7 @@ closed-table = record { running = false; count = 0; protected = 0; rights = 0; c
 
 abbrev pub closed : World → World
 closed w = record { words = plain-words w; table = closed-table }
+
+-- It answers 0. Where the machine is not open it is refused, and changes nothing. No receipt is told from another: any open machine takes any.
+abbrev pub closing : World → Performed
+closing w = cond (w .table .running) (record { answer = Ok 0; world = closed w }) (record { answer = Err Closed; world = w })

@@ -4,24 +4,21 @@ use mathlib.Core.List.{List, [], _∷_, _++_}
 use Prim.Native.Nat.{ℕ, _+_, _*_, _^_, _<_, _≤_}
 use lib.ListN.{length, getD, replicate}
 use Rattle.std.specs.declared.option.Option.the-variants.{Some, None}
-use Rattle.std.specs.declared.result.Result.{Result}
 use Rattle.std.specs.declared.result.Result.the-variants.{Ok, Err}
 use Rattle.word.specs.declared.Word.the-variants.{Plain, Operation}
 use Rattle.word.specs.Word.{raw-of}
 use Rattle.entries.specs.declared.Entry.{Entry}
 use Rattle.entries.specs.declared.list.Entries.{Entries}
-use Rattle.entries.specs.Lists.{Lawful, entry-at}
+use Rattle.entries.specs.Lists.{entry-at}
 use Rattle.entries.specs.Listed.{listed, filling}
 use Rattle.descriptor.specs.Descriptors.{last-number}
-use Rattle.cores.specs.declared.place.Place.{Place}
 use Rattle.cores.specs.declared.table.Setting.{Setting}
-use Rattle.cores.specs.declared.table.Refusal.{Refusal}
 use Rattle.cores.specs.declared.table.Refusal.the-variants.{Tagged, NoRight, UsedUp}
 use Rattle.model.specs.World.{World}
-use Rattle.model.specs.Calls.{Call, starts, reads, steps, collects, raws, opens}
+use Rattle.model.specs.Calls.{starts, reads, steps, collects, opens}
 use Rattle.model.specs.Refusals.{refusal-of, number-of, setting-fits}
 use Rattle.model.specs.Perform.{perform, opened, closed-table}
-use Rattle.model.specs.Histories.{after-calls, answers-of}
+use Rattle.model.specs.Histories.{answers-of}
 
 -- Worked points: what the definitions come to in cases that can be told by hand.
 

@@ -10,7 +10,7 @@ use Rattle.descriptor.specs.Contents.{state-of}
 use Rattle.model.specs.World.{World, core-at}
 use Rattle.model.specs.Rules.{answer-of}
 use Rattle.model.specs.Shown.{shown-value}
-use Rattle.model.specs.Calls.{Call, starts, reads, steps, collects}
+use Rattle.model.specs.Calls.{starts, reads, steps, collects}
 use Rattle.model.specs.Perform.{perform}
 use Rattle.model.specs.Histories.{History, opening-of, world-at, world-of, Called}
 use Rattle.model.specs.Plain.{Whole, swap-all, look-at, Completed, nth, Replays}

@@ -19,7 +19,7 @@ use Rattle.cores.specs.declared.table.Refusal.the-variants.{Closed, Open, Setti
 use Rattle.model.specs.World.{World, core-at}
 use Rattle.model.specs.Calls.{Call, steps, core-of, words-of, started-core, stepped-core, collected-core, setting-of}
 use Rattle.model.specs.Refusals.{number-of}
-use Rattle.model.specs.Perform.{perform}
+use Rattle.model.specs.Perform.{perform, closed, closing}
 
 -- The law of refusals: the condition of each, and that a call is refused with the first whose condition holds.
 
@@ -114,3 +114,6 @@ pub record Refusal-law : Type 0 where
   pub changes-nothing : (w : World) (c : Call) (r : Refusal) → perform w c .answer ≡ Err r → perform w c .world ≡ w
   -- A step is never refused for a right: helping needs none.
   pub helping-needs-no-right : (w : World) (k : ℕ) → Holds w (steps k) NoRight → ⊥
+  -- A close is granted on an open machine and refused on any other, and then changes nothing.
+  pub open-closes : (w : World) → w .table .running ≡ true → closing w ≡ record { answer = Ok 0; world = closed w }
+  pub shut-refuses-close : (w : World) → w .table .running ≡ false → closing w ≡ record { answer = Err Closed; world = w }

@@ -1,9 +1,7 @@
-use mathlib.Core.Path.{_≡_}
 use mathlib.Core.Bool.{Bool, true, false, cond, _&&_, _||_, not}
 use mathlib.Core.List.{List, [], _∷_}
-use mathlib.Core.Logic.{_⊎_}
-use Prim.Native.Nat.{ℕ, _+_, _/_, _%_, _^_, _<_, _≤_}
-use lib.ListN.{length, getD}
+use Prim.Native.Nat.{ℕ, _+_, _/_, _%_, _^_}
+use lib.ListN.{length}
 use lib.Dec.{eqb, ltb, leb}
 use Rattle.std.specs.Options.{isSome}
 use Rattle.std.specs.declared.option.Option.{Option}
@@ -12,8 +10,6 @@ use Rattle.word.specs.declared.Word.{Word}
 use Rattle.word.specs.declared.Word.the-variants as word
 use Rattle.word.specs.Word.{reading-of}
 use Rattle.descriptor.specs.Descriptors.{last-number}
-use Rattle.cores.specs.declared.place.Place.{Place}
-use Rattle.cores.specs.declared.place.Place.the-variants.{Idle, Finished, Look, Begin, Fetch, Make, Try, Decide, Clear, Settle}
 use Rattle.cores.specs.Cores.{is-idle, is-finished, is-making}
 use Rattle.cores.specs.declared.table.Setting.{Setting}
 use Rattle.cores.specs.declared.table.Refusal.{Refusal}

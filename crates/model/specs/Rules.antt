@@ -16,17 +16,14 @@ use Rattle.descriptor.specs.declared.contents.State.the-variants as state
 use Rattle.descriptor.specs.declared.contents.Outcome.{Outcome}
 use Rattle.descriptor.specs.declared.contents.Outcome.the-variants as outcome
 use Rattle.descriptor.specs.declared.contents.Placing.{Placing}
-use Rattle.descriptor.specs.Contents.{count-of, entry-in}
 use Rattle.cores.specs.declared.place.Work.{Work}
 use Rattle.cores.specs.declared.place.Then.{Then}
 use Rattle.cores.specs.declared.place.Then.the-variants as then
-use Rattle.cores.specs.declared.place.Clearing.{Clearing}
 use Rattle.cores.specs.declared.place.Clearing.the-variants as clearing
-use Rattle.cores.specs.declared.place.Settling.{Settling}
 use Rattle.cores.specs.declared.place.Settling.the-variants as settling
 use Rattle.cores.specs.Cores.{home}
 use Rattle.cores.specs.declared.place.Place.{Place}
-use Rattle.cores.specs.declared.place.Place.the-variants.{Idle, Finished, Look, Begin, Fetch, Make, Try, Decide, Clear, Settle}
+use Rattle.cores.specs.declared.place.Place.the-variants.{Idle, Finished, Look, Begin, Fetch, Try, Decide, Clear, Settle}
 use Rattle.cores.specs.declared.place.Own.{Own}
 use Rattle.cores.specs.declared.place.Own.the-variants as own
 

@@ -1,21 +1,18 @@
 use mathlib.Core.Path.{_≡_, refl}
 use mathlib.Core.Bool.{true}
 use mathlib.Core.List.{List, [], _∷_, _++_}
-use Prim.Native.Nat.{ℕ}
-use lib.ListN.{getD, replicate}
+use lib.ListN.{replicate}
 use Rattle.std.specs.declared.result.Result.the-variants.{Ok}
 use Rattle.word.specs.declared.Mark.{Mark}
-use Rattle.entries.specs.declared.Entry.{Entry}
 use Rattle.entries.specs.declared.list.Entries.{Entries}
 use Rattle.entries.specs.Lists.{each, zero-entry}
 use Rattle.descriptor.specs.declared.contents.Placing.{Placing}
-use Rattle.cores.specs.declared.place.Work.{Work}
 use Rattle.cores.specs.declared.place.Then.{Then}
 use Rattle.cores.specs.declared.place.Settling.the-variants as settling
 use Rattle.cores.specs.declared.place.Place.the-variants.{Settle}
 use Rattle.model.specs.World.{World, core-at}
 use Rattle.model.specs.Calls.{Call, starts, reads, steps, collects, raws}
-use Rattle.model.specs.Perform.{perform, opened}
+use Rattle.model.specs.Perform.{opened}
 use Rattle.model.specs.Histories.{after-calls, answers-of}
 use Rattle.model.specs.Points.{shut}
 

@@ -1,25 +1,19 @@
-use mathlib.Core.Bool.{Bool, true, false, cond}
-use mathlib.Core.List.{List, []}
+use mathlib.Core.Bool.{cond}
+use mathlib.Core.List.{List}
 use Prim.Native.Nat.{ℕ}
 use lib.ListN.{length, getD, set}
 use lib.Dec.{ltb}
 use Rattle.std.specs.declared.option.Option.{Option}
 use Rattle.std.specs.declared.option.Option.the-variants.{Some, None}
 use Rattle.std.specs.declared.result.Result.{Result}
-use Rattle.std.specs.declared.result.Result.the-variants.{Ok, Err}
+use Rattle.std.specs.declared.result.Result.the-variants.{Err}
 use Rattle.word.specs.declared.Mark.{Mark}
 use Rattle.word.specs.declared.Word.{Word}
 use Rattle.word.specs.Word.{reading-of}
-use Rattle.descriptor.specs.declared.Descriptor.{Descriptor}
 use Rattle.descriptor.specs.declared.Overtaken.{Overtaken}
 use Rattle.descriptor.specs.declared.contents.Operation.{Operation}
 use Rattle.descriptor.specs.declared.contents.Placing.{Placing}
-use Rattle.descriptor.specs.Descriptors.{reading, fresh}
-use Rattle.descriptor.specs.Contents.{undecided}
-use Rattle.cores.specs.declared.place.Place.{Place}
-use Rattle.cores.specs.declared.place.Place.the-variants.{Idle}
-use Rattle.cores.specs.declared.place.Own.{Own}
-use Rattle.cores.specs.declared.place.Own.the-variants as own
+use Rattle.descriptor.specs.Descriptors.{reading}
 use Rattle.cores.specs.Cores.{new-core}
 use Rattle.cores.specs.declared.table.Core.{Core}
 use Rattle.cores.specs.declared.table.Table.{Table}

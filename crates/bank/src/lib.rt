@@ -1,5 +1,7 @@
 //! Banks of words: numbered 64-bit words that are read and swapped one at a time.
 
+#![tactic(auto)]
+
 ghost use Rattle.std.specs.Prelude.{◌≡◌, ℕ, List, length};
 ghost use Rattle.bank.specs.Bank.{OnlySwap, Swaps, loaded, swapped};
 

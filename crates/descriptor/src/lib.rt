@@ -1,5 +1,8 @@
 //! The reusable descriptor, a weak descriptor: contents of any type under a sequence number. Each creation takes the next
 //! number and overtakes every earlier one. (Weak descriptors: Arbel-Raviv and Brown, DISC 2017.)
+
+#![tactic(auto)]
+
 ghost use Rattle.std.specs.Prelude.{◌≡◌, nat_le};
 ghost use Rattle.descriptor.specs.Descriptors.{last_number, fresh, creation, created, seen, reading, change_answer, changed};
 ghost use Rattle.descriptor.specs.Laws.{Laws};

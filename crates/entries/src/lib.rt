@@ -1,5 +1,7 @@
 //! Lists of entries for a k-CAS: only a lawful list can be had.
 
+#![tactic(auto)]
+
 mod list;
 
 pub use list::{Entries, law_stands};

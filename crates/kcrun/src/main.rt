@@ -1,4 +1,7 @@
 //! Reads one run file from standard input and prints its report.
+
+#![tactic(auto)]
+
 use anyhow::anyhow;
 use runfile::file::{Fault, RunFile};
 use runfile::reader::{MOST_BYTES, read};

@@ -1,4 +1,7 @@
 //! The machine: up to 8 cores over any bank.
+
+#![tactic(auto)]
+
 mod machine;
 mod rules;
 pub mod run;

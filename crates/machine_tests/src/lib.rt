@@ -1,5 +1,7 @@
 //! Examples of the machine's calls, and of runs over each bank.
 
+#![tactic(auto)]
+
 #[cfg(test)]
 mod tests {
     use bank::{Bank, ByteBank, Pair, Window, WordBank};

@@ -1,4 +1,7 @@
 //! The machine on paper: in specs/ the definition of every call and the promises, and the theorems about them.
+
+#![tactic(auto)]
+
 ghost use Rattle.model.specs.RefusalLaw.{RefusalLaw};
 ghost use Rattle.model.specs.PromiseLaw.{PromiseLaw};
 ghost use Rattle.model.specs.Promises.{PromisesHold};

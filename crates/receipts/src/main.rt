@@ -1,4 +1,7 @@
 //! Two machines that are opened and closed: every receipt goes to a close, and every close to an open machine.
+
+#![tactic(auto)]
+
 ghost use Rattle.std.specs.Prelude.{◌≡◌, true, IfOk};
 
 use bank::{Bank, WordBank};

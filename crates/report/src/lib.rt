@@ -1,4 +1,7 @@
 //! From the bytes of a run file to its listing.
+
+#![tactic(auto)]
+
 ghost use Rattle.std.specs.Prelude.{◌≡◌, [], replicate, IfOk, Ok, Err};
 ghost use Rattle.listing.specs.Listing.{listing};
 ghost use Rattle.runfile.specs.Reading.{reading, contents};

@@ -1,5 +1,7 @@
 //! Run files with the listings that they come to.
 
+#![tactic(auto)]
+
 #[cfg(test)]
 mod tests {
     use report::{NoMemory, report};

@@ -1,5 +1,7 @@
 //! Examples and edges of the run file's format.
 
+#![tactic(auto)]
+
 #[cfg(test)]
 mod tests {
     use runfile::file::{Action, Fault, Record, RunFile};

@@ -1,4 +1,7 @@
 //! Raw 64-bit words and their one reading: a plain value, a mark of one of two kinds, or foreign.
+
+#![tactic(auto)]
+
 ghost use Rattle.std.specs.Prelude.{◌≡◌, ℕ, ◌<◌};
 ghost use Rattle.word.specs.Word.{decoding, reading_of, raw_of, packed_of, Says, Writable};
 

@@ -13,12 +13,12 @@ pub loop-call-preserved : goal.loop-call-preserved
 loop-call-preserved c =
     let old : List ℕ = vec_items c.args.text.now in
     let x : Call × Result ℕ Refusal = (c.in-Some.call.now, c.in-Some.answer.now) in
-    c.in-ok-push-call.ensures ∙ ap (λ (m : List ℕ). m ++ answered_line x) c.loop-call.invariant ∙ flat_map_more answered_line old _ x ∙ ap (λ zs. old ++ flat_map answered_line zs) (sym (map-append _ c.loop-call.yielded _))
+    c.in_ok-push_call.ensures ∙ ap (λ (m : List ℕ). m ++ answered_line x) c.loop-call.invariant ∙ flat_map_more answered_line old _ x ∙ ap (λ zs. old ++ flat_map answered_line zs) (sym (map-append _ c.loop-call.yielded _))
 
 pub returns : goal.returns
 returns c =
-    let whole = c.into-iter-call-iterator.ensures.into-iter-gives in
+    let whole = c.into_iter-call-iterator.ensures.into_iter-gives in
     let road = yields-list-from-pairs c.args.calls.now c.args.answers.now
     (ap (λ z. iter_rest (zip_first z)) whole ∙ ap iter_rest c.zip-call-items.ensures.first ∙ c.iter.ensures.rest)
     (ap (λ z. iter_rest (zip_second z)) whole ∙ c.zip-call-items.ensures.second.0) in
-    c.loop-call.invariant ∙ ap (λ zs. vec_items c.args.text.now ++ flat_map answered_line zs) (YieldsList-end road c.loop-call.yielded _ c.loop-call.yielded-by _ _ c.in-None.is c.next.ensures.steps).0
+    c.loop-call.invariant ∙ ap (λ zs. vec_items c.args.text.now ++ flat_map answered_line zs) (YieldsList-end road c.loop-call.yielded _ c.loop-call.yielded_by _ _ c.in-None.is c.next.ensures.steps).0

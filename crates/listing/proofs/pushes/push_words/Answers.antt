@@ -10,7 +10,7 @@ loop-value-preserved c =
     let old : List ℕ = vec_items c.push.new.self in
     let words : List ℕ = c.args.words.now in
     let value : ℕ = get_or words c.loop-value.value-index 0 in
-    added_both (vec_items c.loop-value.text) (32 ∷ []) (decimal value) c.in-ok-push-2.ensures.items c.in-ok-push-number.ensures
+    added_both (vec_items c.loop-value.text) (32 ∷ []) (decimal value) c.in_ok-push-2.ensures.items c.in_ok-push_number.ensures
     ∙ ap (λ (m : List ℕ). m ++ spaced value) c.loop-value.invariant ∙ flat_map_more spaced old (take c.loop-value.value-index words) value
     ∙ ap (λ (vs : List ℕ). old ++ flat_map spaced vs) (sym (take_more words c.loop-value.value-index 0 c.loop-value-test.true))
 
@@ -20,5 +20,5 @@ returns c =
     let text : List ℕ = vec_items c.args.text.now in
     let old : List ℕ = vec_items c.push.new.self in
     let all = c.loop-value.invariant ∙ ap (λ (vs : List ℕ). old ++ flat_map spaced vs) (take_all _ words c.loop-value-test.false) in
-    let line = added_both text (119 ∷ []) (flat_map spaced words) c.in-ok-push.ensures.items all in
-    added_both text (119 ∷ flat_map spaced words) (10 ∷ []) line c.in-ok-push-3.ensures.items
+    let line = added_both text (119 ∷ []) (flat_map spaced words) c.in_ok-push.ensures.items all in
+    added_both text (119 ∷ flat_map spaced words) (10 ∷ []) line c.in_ok-push-3.ensures.items

@@ -8,8 +8,8 @@ loop-rest-init c =
 
 pub loop-rest-preserved : goal.loop-rest-preserved
 loop-rest-preserved c =
-    let p = c.in-ok-push.ensures in
+    let p = c.in_ok-push.ensures in
     (omega (arith, p.len), gathered_more _ _ _ _ _ _ _ _ c.loop-rest.invariant.1 c.in-Some.ensures p.len p.items)
 
-pub returns-in-default : goal.returns-in-default
-returns-in-default c = (refl, gathered_cut _ _ _ _ _ c.loop-rest.invariant.1 (omega arith) (omega (arith, c.in-default.ensures)))
+pub returns-in_default : goal.returns-in_default
+returns-in_default c = (refl, gathered_cut _ _ _ _ _ c.loop-rest.invariant.1 (omega arith) (omega (arith, c.in_default.ensures)))

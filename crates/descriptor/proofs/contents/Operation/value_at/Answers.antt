@@ -2,6 +2,6 @@ use Rattle.std.proofs.Common.{rules}
 use Rattle.descriptor.specs.Contents.{value_among}
 use Rattle.descriptor.proofs.contents.Operation.value_at.Goals as goal
 
-pub returns-in-None : goal.returns-in-None
+pub returns-in_default : goal.returns-in_default
 unfolding value_among
-returns-in-None c = search rules
+returns-in_default c = search rules

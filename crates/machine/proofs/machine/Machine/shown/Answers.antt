@@ -9,4 +9,4 @@ pub returns : goal.returns
 returns g c =
     let w = view g.B.Bank.words c.args.self.now in
     let e = looked_world w (shows c.args.at) refl in
-    record { answer = c.look-shown.ensures ∙ shown_is w c.args.at; after = sym e; keeps = keeps w w (shows c.args.at) e }
+    record { answer = c.look_shown.ensures ∙ shown_is w c.args.at; after = sym e; keeps = keeps w w (shows c.args.at) e }

@@ -9,9 +9,9 @@ loop-i-init g c = (refl, plain_none (view g.B.Bank.words c.args.self.now))
 pub loop-i-preserved : goal.loop-i-preserved
 loop-i-preserved g c =
     let h : c.loop-i.i < length (g.B.Bank.words c.args.self.now.bank) = omega arith in
-    plain_more (view g.B.Bank.words c.args.self.now) (view g.B.Bank.words c.loop-i.self) (view g.B.Bank.words c.store-shown.new.self) c.loop-i.i c.loop-i.invariant.0 c.loop-i.invariant.1 h c.store-shown.ensures
+    plain_more (view g.B.Bank.words c.args.self.now) (view g.B.Bank.words c.loop-i.self) (view g.B.Bank.words c.store_shown.new.self) c.loop-i.i c.loop-i.invariant.0 c.loop-i.invariant.1 h c.store_shown.ensures
 
 pub returns : goal.returns
 returns g c =
     let h : length (g.B.Bank.words c.args.self.now.bank) ≤ c.loop-i.i = omega arith in
-    shut_comes (view g.B.Bank.words c.args.self.now) (view g.B.Bank.words c.loop-i.self) _ c.loop-i.i c.loop-i.invariant.1 h refl c.closed-table-self.ensures
+    shut_comes (view g.B.Bank.words c.args.self.now) (view g.B.Bank.words c.loop-i.self) _ c.loop-i.i c.loop-i.invariant.1 h refl c.closed_table-self.ensures

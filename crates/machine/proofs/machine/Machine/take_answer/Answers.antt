@@ -15,14 +15,14 @@ returns-in-Some g c =
     let r = refused_call w (collects c.args.core) q (sym (collect_tests w c.args.core) ∙ rw e) in
     record { answer = r.0; after = r.1; bank = refl }
 
-pub returns-in-Some-collect-core : goal.returns-in-Some-collect-core
-returns-in-Some-collect-core g c =
+pub returns-in-Some-collect_core : goal.returns-in-Some-collect_core
+returns-in-Some-collect_core g c =
     let w = view g.B.Bank.words c.args.self.now in
-    let e = collect_comes w c.args.core (sym c.admission.ensures.is ∙ c.in-default.is) in
-    record { answer = ap or_no_answer (sym c.in-Some-collect-core.is ∙ c.collect-core.ensures.answer) ∙ sym (ap (λ (p : Performed). p.answer) e); after = c.collect-core.ensures.after ∙ sym (ap (λ (p : Performed). p.world) e); bank = c.collect-core.ensures.bank }
+    let e = collect_comes w c.args.core (sym c.admission.ensures.is ∙ c.in_default.is) in
+    record { answer = ap or_no_answer (sym c.in-Some-collect_core.is ∙ c.collect_core.ensures.answer) ∙ sym (ap (λ (p : Performed). p.answer) e); after = c.collect_core.ensures.after ∙ sym (ap (λ (p : Performed). p.world) e); bank = c.collect_core.ensures.bank }
 
 pub returns-in-None : goal.returns-in-None
 returns-in-None g c =
     let w = view g.B.Bank.words c.args.self.now in
-    let e = collect_comes w c.args.core (sym c.admission.ensures.is ∙ c.in-default.is) in
-    record { answer = ap or_no_answer (sym c.in-None.is ∙ c.collect-core.ensures.answer) ∙ sym (ap (λ (p : Performed). p.answer) e); after = c.collect-core.ensures.after ∙ sym (ap (λ (p : Performed). p.world) e); bank = c.collect-core.ensures.bank }
+    let e = collect_comes w c.args.core (sym c.admission.ensures.is ∙ c.in_default.is) in
+    record { answer = ap or_no_answer (sym c.in-None.is ∙ c.collect_core.ensures.answer) ∙ sym (ap (λ (p : Performed). p.answer) e); after = c.collect_core.ensures.after ∙ sym (ap (λ (p : Performed). p.world) e); bank = c.collect_core.ensures.bank }

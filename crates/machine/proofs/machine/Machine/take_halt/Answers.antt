@@ -14,5 +14,5 @@ returns-in-Some g c =
 pub returns : goal.returns
 returns g c =
     let w = view g.B.Bank.words c.args.self.now in
-    let r = granted_call w (halts c.args.core) (sym (halt_tests w c.args.core) ∙ sym c.admission.ensures.is ∙ c.in-default.is) in
-    record { answer = r.0; after = c.halt-core.ensures.after ∙ r.1; bank = c.halt-core.ensures.bank }
+    let r = granted_call w (halts c.args.core) (sym (halt_tests w c.args.core) ∙ sym c.admission.ensures.is ∙ c.in_default.is) in
+    record { answer = r.0; after = c.halt_core.ensures.after ∙ r.1; bank = c.halt_core.ensures.bank }

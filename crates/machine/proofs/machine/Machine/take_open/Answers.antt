@@ -16,5 +16,5 @@ returns-in-Some g c =
 pub returns : goal.returns
 returns g c =
     let w = view g.B.Bank.words c.args.self.now in
-    let r = granted_call w (opens c.args.setting) (sym (open_tests w c.args.setting) ∙ sym c.opening_refusal.ensures ∙ c.in-default.is) in
-    record { answer = ap (receipt_for c.args.setting) r.0; after = ap (λ (t : Table). record { words = w.words; table = t }) c.opened-table-self.ensures ∙ r.1; bank = refl }
+    let r = granted_call w (opens c.args.setting) (sym (open_tests w c.args.setting) ∙ sym c.opening_refusal.ensures ∙ c.in_default.is) in
+    record { answer = ap (receipt_for c.args.setting) r.0; after = ap (λ (t : Table). record { words = w.words; table = t }) c.opened_table-self.ensures ∙ r.1; bank = refl }

@@ -19,13 +19,13 @@ returns-in-Some g c =
 pub returns-in-Ok : goal.returns-in-Ok
 returns-in-Ok g c =
     let w = view g.B.Bank.words c.args.self.now in
-    let e = start_comes w c.args.core c.args.list.now (tested c.args.self.now.table c.args.core _ _ _ (words_of (starts 0 c.args.list.now)) _ _ _ c.size.ensures c.of-named.ensures c.start_refusal.ensures.is c.in-default.is) in
-    let d = c.start-list-on.ensures in
+    let e = start_comes w c.args.core c.args.list.now (tested c.args.self.now.table c.args.core _ _ _ (words_of (starts 0 c.args.list.now)) _ _ _ c.size.ensures c.of-named.ensures c.start_refusal.ensures.is c.in_default.is) in
+    let d = c.start_list_on.ensures in
     record { answer = ap or_used_up (sym c.in-Ok.is ∙ d.answer) ∙ sym (ap (λ (p : Performed). p.answer) e); after = d.after ∙ sym (ap (λ (p : Performed). p.world) e); bank = d.bank }
 
 pub returns-in-Err : goal.returns-in-Err
 returns-in-Err g c =
     let w = view g.B.Bank.words c.args.self.now in
-    let e = start_comes w c.args.core c.args.list.now (tested c.args.self.now.table c.args.core _ _ _ (words_of (starts 0 c.args.list.now)) _ _ _ c.size.ensures c.of-named.ensures c.start_refusal.ensures.is c.in-default.is) in
-    let d = c.start-list-on.ensures in
+    let e = start_comes w c.args.core c.args.list.now (tested c.args.self.now.table c.args.core _ _ _ (words_of (starts 0 c.args.list.now)) _ _ _ c.size.ensures c.of-named.ensures c.start_refusal.ensures.is c.in_default.is) in
+    let d = c.start_list_on.ensures in
     record { answer = ap or_used_up (sym c.in-Err.is ∙ d.answer) ∙ sym (ap (λ (p : Performed). p.answer) e); after = d.after ∙ sym (ap (λ (p : Performed). p.world) e); bank = d.bank }

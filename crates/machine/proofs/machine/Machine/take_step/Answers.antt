@@ -11,5 +11,5 @@ returns-in-Some g c =
 pub returns : goal.returns
 returns g c =
     let r = step_comes (view g.B.Bank.words c.args.self.now) (view g.B.Bank.words c.access-seen.new.self) (view g.B.Bank.words c.arrive.new.self) c.args.core _ _ _ _ _
-    (sym c.step_refusal.ensures.is ∙ c.in-default.is) c.place-of-place.ensures c.own-of-own.ensures c.access-seen.ensures.answer c.access-seen.ensures.after c.next.ensures c.arrive.ensures.after c.arrive.ensures.answer in
+    (sym c.step_refusal.ensures.is ∙ c.in_default.is) c.place_of-place.ensures c.own_of-own.ensures c.access-seen.ensures.answer c.access-seen.ensures.after c.next.ensures c.arrive.ensures.after c.arrive.ensures.answer in
     record { answer = r.0; after = r.1; refused = λ e. absurd (grind arith) }

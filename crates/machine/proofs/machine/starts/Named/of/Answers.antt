@@ -8,8 +8,8 @@ loop-i-init c = c.none-named.ensures ∙ none_named c.args.size c.args.protected
 
 pub loop-i-preserved : goal.loop-i-preserved
 loop-i-preserved c =
-    more_named c.args.size c.args.protected c.loop-i.i (listed c.args.list.now) c.as-slice-entries.result.now _ c.loop-i.named c.with-named.result c.as-slice-entries.ensures c.loop-i-test.true c.loop-i.invariant c.with-named.ensures
+    more_named c.args.size c.args.protected c.loop-i.i (listed c.args.list.now) c.as_slice-entries.result.now _ c.loop-i.named c.with-named.result c.as_slice-entries.ensures c.loop-i-test.true c.loop-i.invariant c.with-named.ensures
 
 pub returns : goal.returns
 returns c =
-    all_named c.args.size c.args.protected c.loop-i.i (listed c.args.list.now) c.as-slice-entries.result.now c.loop-i.named c.as-slice-entries.ensures c.loop-i-test.false c.loop-i.invariant
+    all_named c.args.size c.args.protected c.loop-i.i (listed c.args.list.now) c.as_slice-entries.result.now c.loop-i.named c.as_slice-entries.ensures c.loop-i-test.false c.loop-i.invariant

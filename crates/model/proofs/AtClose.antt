@@ -7,8 +7,6 @@ use Rattle.word.specs.Word.{reading_of, raw_of}
 use Rattle.bank.proofs.Laws.{swaps_of}
 use Rattle.entries.specs.declared.Entry.{Entry}
 use Rattle.entries.specs.Lists.{entry_at}
-use Rattle.descriptor.specs.declared.contents.Operation.{Operation}
-use Rattle.descriptor.specs.declared.contents.Placing.{Placing}
 use Rattle.descriptor.specs.declared.contents.State.{State}
 use Rattle.descriptor.specs.declared.contents.State.TheVariants as state
 use Rattle.descriptor.specs.Contents.{entries_of, value_by, value_among}

@@ -1,4 +1,4 @@
-use Rattle.std.proofs.Common.{◌≡◌, ℕ, ◌+◌, ◌<◌, ◌≤◌, true, false, ◌⊎◌, List, [], length, Option, sym, refl, ap, ◌∙◌, subst, inl, ⊎_elim, le_refl, arith}
+use Rattle.std.proofs.Common.{◌≡◌, ℕ, ◌+◌, ◌<◌, ◌≤◌, [], length, Option, sym, refl, ap, ◌∙◌, subst, inl, ⊎_elim, le_refl, arith}
 use Rattle.std.proofs.lemmas.Bool.{cases_eq, cases_lt, true≢false, false≢true}
 use Rattle.word.specs.declared.Mark.{Mark}
 use Rattle.word.specs.declared.Word.{Word}
@@ -9,7 +9,6 @@ use Rattle.entries.proofs.Law.{listed_lawful}
 use Rattle.descriptor.specs.declared.Descriptor.{Descriptor}
 use Rattle.descriptor.specs.declared.contents.Operation.{Operation}
 use Rattle.descriptor.specs.declared.contents.State.TheVariants as state
-use Rattle.descriptor.specs.declared.contents.Placing.{Placing}
 use Rattle.descriptor.specs.Descriptors.{last_number}
 use Rattle.descriptor.specs.Contents.{undecided, entries_of}
 use Rattle.cores.specs.declared.place.Place.TheVariants.{Idle, Finished, Look, Begin}
@@ -18,7 +17,7 @@ use Rattle.cores.specs.declared.place.Own.TheVariants as own
 use Rattle.model.specs.World.{World, core_at, with_core}
 use Rattle.cores.specs.Cores.{home, started, collected, halted}
 use Rattle.model.proofs.Memory.{Memory, view, upd, move, fresh_op, disown}
-use Rattle.model.proofs.Facts.{Undecided, Apart, PlaceOk, WordOk, OwnOk, Inv, Rely}
+use Rattle.model.proofs.Facts.{Apart, PlaceOk, WordOk, OwnOk, Inv, Rely}
 use Rattle.model.proofs.Updates.{upd_same, upd_other, upd_both}
 use Rattle.model.proofs.Stable.{place_on}
 use Rattle.model.proofs.Keep.{inv_move, inv_start}

@@ -1,9 +1,8 @@
-use Rattle.std.proofs.Common.{◌≡◌, ℕ, zero, suc, ◌+◌, ◌<◌, ◌≤◌, true, ◌⊎◌, [], length, get_or, replicate, sym, refl, subst, ⊎_elim, add-one, arith}
+use Rattle.std.proofs.Common.{◌≡◌, ℕ, zero, suc, ◌+◌, ◌<◌, ◌≤◌, true, [], length, get_or, replicate, sym, refl, subst, ⊎_elim, add-one, arith}
 use Rattle.std.proofs.lemmas.Bool.{cases_lt}
 use Rattle.std.proofs.lemmas.List.{get_or-replicate, length-replicate, get_or_past}
 use Rattle.word.specs.declared.Word.{Word}
 use Rattle.word.specs.declared.Word.TheVariants as word
-use Rattle.descriptor.specs.declared.contents.State.TheVariants as state
 use Rattle.cores.specs.declared.place.Place.TheVariants.{Idle}
 use Rattle.cores.specs.declared.place.Own.TheVariants as own
 use Rattle.cores.specs.declared.table.Core.{Core}

@@ -1,9 +1,8 @@
-use Rattle.std.proofs.Common.{◌≡◌, ℕ, ◌+◌, Bool, true, false, ◌&&◌, ◌⊎◌, sym, refl, ◌∙◌, ⊎_elim, le_refl, arith}
+use Rattle.std.proofs.Common.{◌≡◌, ℕ, ◌+◌, Bool, true, false, ◌&&◌, sym, refl, ◌∙◌, ⊎_elim, le_refl, arith}
 use Rattle.std.proofs.lemmas.Bool.{both_ways, true≢false, false≢true, and_parts, and_from, eqb-true, eq-eqb, ltb-true, ltb-false, cond_both, cases_lt}
 use Rattle.word.specs.declared.Mark.{Mark}
 use Rattle.word.specs.declared.Word.TheVariants as word
 use Rattle.descriptor.specs.declared.contents.Outcome.TheVariants as outcome
-use Rattle.descriptor.specs.declared.contents.Placing.{Placing}
 use Rattle.cores.specs.declared.place.Work.{Work}
 use Rattle.cores.specs.declared.place.Then.TheVariants as then
 use Rattle.cores.specs.declared.place.Place.{Place}

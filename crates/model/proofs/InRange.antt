@@ -33,7 +33,7 @@ use Rattle.cores.specs.declared.table.Setting.{Setting}
 use Rattle.cores.specs.declared.table.Refusal.{Refusal}
 use Rattle.cores.specs.declared.table.Refusal.TheVariants.{Open, Setting as BadSetting, Tagged, NoWord, UsedUp}
 use Rattle.model.specs.World.{World, core_at, with_words, with_core}
-use Rattle.cores.specs.Cores.{new_core, with_placing, home, is_making, started, halted}
+use Rattle.cores.specs.Cores.{new_core, with_placing, home, is_making, started}
 use Rattle.model.specs.Step.{decides, step_change, step_place, change_world, after_make, arrive, step_world}
 use Rattle.model.specs.Calls.{Call, starts, reads, steps, collects, halts, shows, raws, opens, words_of}
 use Rattle.model.specs.Refusals.{refusal_of, is_plain, setting_fits}

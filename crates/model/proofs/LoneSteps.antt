@@ -8,7 +8,6 @@ use Rattle.word.specs.Word.{reading_of, raw_of}
 use Rattle.bank.specs.Bank.{swapped}
 use Rattle.entries.specs.declared.Entry.{Entry}
 use Rattle.descriptor.specs.declared.Descriptor.{Descriptor}
-use Rattle.descriptor.specs.declared.contents.Operation.{Operation}
 use Rattle.descriptor.specs.declared.contents.State.{State}
 use Rattle.descriptor.specs.declared.contents.State.TheVariants as state
 use Rattle.descriptor.specs.declared.contents.Outcome.{Outcome}

@@ -9,9 +9,9 @@ loop-value-init g c = put_none _ spaced _
 
 pub loop-value-preserved : goal.loop-value-preserved
 loop-value-preserved g c =
-    put_next _ spaced _ _ _ _ _ _ (take_more c.args.self.now.0.now c.loop-value.value-index 0 c.loop-value-test.true) c.loop-value.invariant c.in_ok-write-2.ensures.shows
+    put_next _ spaced _ _ _ _ _ _ (take_more c.args.self.now.0.now c.loop-value.value-index 0 c.loop-value-test.true) c.loop-value.invariant c.in_ok-write-2.ensures.writes
 
 pub returns-clause-writes : goal.returns-clause-writes
 returns-clause-writes g c =
-    λ plain _. put_before _ spaced _ (119 ∷ []) _ _ _ c.in_ok-write.ensures.shows
+    λ plain _. put_before _ spaced _ (119 ∷ []) _ _ _ c.in_ok-write.ensures.writes
     (put_same _ spaced _ _ _ _ (take_all _ c.args.self.now.0.now c.loop-value-test.false) c.loop-value.invariant) plain

@@ -72,12 +72,12 @@ fn whole_listings(rt: HostRuntime) -> Result<(), Fail> {
     let text = run.bytes(rt.alloc())?;
     assert_eq!(rt;
         text.as_slice(),
-        b"o 0\nb 0 1\ns 0 r12\nw 5 18446744073709551615\n"
+        b"o 0\nb 0 1\ns 0 r12\nw 5 18446744073709551615\n".as_slice()
     );
     let refused = Listing {
         opened: Err(Refusal::Setting),
         ..run
     };
-    assert_eq!(rt; refused.bytes(rt.alloc())?.as_slice(), b"o r3\n");
+    assert_eq!(rt; refused.bytes(rt.alloc())?.as_slice(), b"o r3\n".as_slice());
     Ok(())
 }

@@ -1,14 +1,14 @@
 #!/bin/bash
-# Compares kcrun with the plain program: the same listing, and at most 1.5 times the time on the largest file.
-# Usage: bash bench/run.sh [KCRUN [REPEATS]]
+# Compares kcrun_listing with the plain program: the same listing, and at most 1.5 times the time on the largest file.
+# Usage: bash bench/run.sh [PROGRAM [REPEATS]]
 set -eu
 cd "$(dirname "$0")/.."
-kcrun=${1:-target/bin/kcrun}
+program=${1:-crates/kcrun_listing/out/kcrun_listing}
 repeats=${2:-200}
-example=crates/kcrun/stdin
+example=crates/kcrun_listing/stdin
 
-if [ ! -x "$kcrun" ]; then
-    echo "bench: no program $kcrun; build it with: rt check kcrun" >&2
+if [ ! -x "$program" ]; then
+    echo "bench: no program $program; build it with: (cd crates/kcrun_listing && rt run)" >&2
     exit 2
 fi
 
@@ -19,7 +19,7 @@ python3 bench/largest.py > "$folder/largest"
 
 for file in "$example" "$folder/largest"; do
     "$folder/plain" < "$file" > "$folder/plain.listing"
-    "$kcrun" < "$file" > "$folder/kcrun.listing"
+    "$program" < "$file" > "$folder/kcrun.listing"
     if ! difference=$(cmp "$folder/kcrun.listing" "$folder/plain.listing" 2>&1); then
         echo "bench: the listings of $(basename "$file") differ:" >&2
         echo "$difference" >&2
@@ -28,4 +28,4 @@ for file in "$example" "$folder/largest"; do
 done
 echo "same listings: the example, and the largest file ($(wc -l < "$folder/plain.listing") lines)"
 
-python3 bench/times.py "$kcrun" "$folder/plain" "$folder/largest" "$example" "$repeats"
+python3 bench/times.py "$program" "$folder/plain" "$folder/largest" "$example" "$repeats"

@@ -1,9 +1,9 @@
 #!/usr/bin/env python3
-"""Runs kcrun on many run files and compares what it prints with what the model says.
+"""Runs kcrun_listing on many run files and compares what it prints with what the model says.
 
-    python3 tools/compare.py [KCRUN [FILES [SEED]]]
+    python3 tools/compare.py [PROGRAM [FILES [SEED]]]
 
-KCRUN is target/bin/kcrun where it is not given, FILES 10,000 and SEED 1. The files are the same for the same seed. It stops at the first
+PROGRAM is crates/kcrun_listing/out/kcrun_listing where it is not given, FILES 10,000 and SEED 1. The files are the same for the same seed. It stops at the first
 difference, keeps that file, and shows the first line that differs.
 """
 
@@ -19,7 +19,7 @@ from model import listing
 
 ROOT = Path(__file__).resolve().parent.parent
 DIFFERING = Path(tempfile.gettempdir()) / "compare-differs.run"
-MOST_SECONDS = 20  # for one file, which takes kcrun some milliseconds
+MOST_SECONDS = 20  # for one file, which takes the program some milliseconds
 GRANTED = {"b": "starts", "s": "steps", "c": "collects", "h": "halts"}
 
 
@@ -40,7 +40,7 @@ def show_difference(wanted, found):
         if want != have:
             print(f"line {number}:")
             print(f"  model: {want!r}")
-            print(f"  kcrun: {have!r}")
+            print(f"  program: {have!r}")
             return
 
 
@@ -79,11 +79,11 @@ def compare(program, files, seed):
 
 
 def main(arguments):
-    program = Path(arguments[0]) if arguments else ROOT / "target" / "bin" / "kcrun"
+    program = Path(arguments[0]) if arguments else ROOT / "crates" / "kcrun_listing" / "out" / "kcrun_listing"
     files = int(arguments[1]) if len(arguments) > 1 else 10_000
     seed = int(arguments[2]) if len(arguments) > 2 else 1
     if not program.is_file():
-        print(f"compare: no program {program}; build it with: rt check kcrun", file=sys.stderr)
+        print(f"compare: no program {program}; build it with: cd crates/kcrun_listing && rt run", file=sys.stderr)
         return 2
     return 0 if compare(program.resolve(), files, seed) else 1
 

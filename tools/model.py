@@ -3,7 +3,7 @@
 
     python3 tools/model.py < FILE
 
-prints the listing of a run file, as kcrun has to print it.
+prints the listing of a run file, as kcrun_listing has to print it.
 
 The form is another than that of the crates. A core's run is a generator that makes one access between two yields, so that the step rules
 stand here as loops and calls, where the crates have places. And a mark is the creation itself that it names, told from others by being
@@ -474,7 +474,7 @@ def run_lines(file, tally):
 
 
 def listing(data, tally=None):
-    """What kcrun has to print for these bytes; what came up in the run is added to the tally."""
+    """What kcrun_listing has to print for these bytes; what came up in the run is added to the tally."""
     try:
         lines = run_lines(read_file(data), Counter() if tally is None else tally)
     except Fault as fault:

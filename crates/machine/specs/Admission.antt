@@ -1,4 +1,4 @@
-use Rattle.std.specs.Prelude.{ℕ, cond, not, ◌&&◌, ◌||◌, ltb, leb, List, Some, None, Option, nat_le, nat_lt}
+use Rattle.std.specs.Prelude.{ℕ, cond, not, ◌&&◌, ◌||◌, List, Some, None, Option, nat_le, nat_lt}
 use Rattle.cores.specs.declared.table.Table.{Table}
 use Rattle.cores.specs.declared.table.Refusal.{Refusal}
 use Rattle.cores.specs.declared.table.Refusal.TheVariants.{Closed, NoCore, Halted, Busy, NoWord, NoRight}
@@ -23,7 +23,7 @@ step_refusal t k = else_refused (admission t k) (step_refused (core_at (tabled t
 
 -- What the words of a start are, and with one word more, where there are size words, the first of them protected.
 abbrev pub named_of : ℕ → ℕ → List ℕ → Named
-named_of size protected is = record { missing = some_of (λ i. leb size i) is; protected = some_of (λ i. ltb i protected) is }
+named_of size protected is = record { missing = some_of (λ i. nat_le size i) is; protected = some_of (λ i. nat_lt i protected) is }
 
 abbrev pub named_with : Named → ℕ → ℕ → ℕ → Named
 named_with n size protected i = record { missing = n.missing || nat_le size i; protected = n.protected || nat_lt i protected }

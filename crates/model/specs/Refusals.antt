@@ -1,4 +1,4 @@
-use Rattle.std.specs.Prelude.{ℕ, ◌+◌, ◌/◌, ◌%◌, ◌^◌, Bool, true, false, cond, not, ◌&&◌, ◌||◌, leb, List, [], ◌∷◌, length, is_some, Some, None, Option, ◌==◌, nat_le, nat_lt}
+use Rattle.std.specs.Prelude.{ℕ, ◌+◌, ◌/◌, ◌%◌, ◌^◌, Bool, true, false, cond, not, ◌&&◌, ◌||◌, List, [], ◌∷◌, length, is_some, Some, None, Option, ◌==◌, nat_le, nat_lt}
 use Rattle.word.specs.declared.Word.{Word}
 use Rattle.word.specs.declared.Word.TheVariants as word
 use Rattle.word.specs.Word.{reading_of}
@@ -64,9 +64,9 @@ table_for w c =
     ∷ (record { test = if_there (core_of c) (λ k. (core_at w k).halted); refusal = Halted }
     ∷ (record { test = if_there (started_core c) (λ k. not (is_idle (core_at w k).place)); refusal = Busy }
     ∷ (record { test = if_there (stepped_core c) (λ k. is_idle (core_at w k).place || is_finished (core_at w k).place); refusal = AtRest }
-    ∷ (record { test = some_of (λ i. leb (length w.words) i) (words_of c); refusal = NoWord }
+    ∷ (record { test = some_of (λ i. nat_le (length w.words) i) (words_of c); refusal = NoWord }
     ∷ (record { test = if_there (started_core c) (λ k. not (has_right w k) && some_of (λ i. nat_lt i w.table.protected) (words_of c)); refusal = NoRight }
-    ∷ (record { test = if_there (started_core c) (λ k. leb last_number (core_at w k).operation.last) || if_there (stepped_core c) (λ k. is_making (core_at w k).place && nat_le last_number (core_at w k).placing.last); refusal = UsedUp }
+    ∷ (record { test = if_there (started_core c) (λ k. nat_le last_number (core_at w k).operation.last) || if_there (stepped_core c) (λ k. is_making (core_at w k).place && nat_le last_number (core_at w k).placing.last); refusal = UsedUp }
     ∷ (record { test = if_there (collected_core c) (λ k. not (is_finished (core_at w k).place)); refusal = NoAnswer }
     ∷ [])))))))))))
 

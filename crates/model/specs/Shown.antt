@@ -6,7 +6,7 @@ use Rattle.word.specs.Word.{reading_of, raw_of}
 use Rattle.descriptor.specs.declared.Overtaken.{Overtaken}
 use Rattle.descriptor.specs.declared.contents.Operation.{Operation}
 use Rattle.descriptor.specs.declared.contents.Placing.{Placing}
-use Rattle.descriptor.specs.Contents.{value_in}
+use Rattle.descriptor.specs.Contents.{entries_of, value_among}
 use Rattle.model.specs.World.{World, operation_at, placing_at}
 
 -- The shown value of a word. A plain word shows its value; under a placing mark it is that descriptor's expected value; under an operation
@@ -17,7 +17,7 @@ shown_by_placing (Ok p) = p.expected
 shown_by_placing (Err e) = 0
 
 abbrev pub shown_by_operation : Result Operation Overtaken → ℕ → ℕ
-shown_by_operation (Ok o) i = value_in o i
+shown_by_operation (Ok o) i = value_among o.state (entries_of o.list) i
 shown_by_operation (Err e) i = 0
 
 abbrev pub shown_word : World → ℕ → Word → ℕ

@@ -19,8 +19,8 @@ python3 bench/largest.py > "$folder/largest"
 
 for file in "$example" "$folder/largest"; do
     "$folder/plain" < "$file" > "$folder/plain.listing"
-    "$program" < "$file" > "$folder/kcrun.listing"
-    if ! difference=$(cmp "$folder/kcrun.listing" "$folder/plain.listing" 2>&1); then
+    "$program" < "$file" > "$folder/program.listing"
+    if ! difference=$(cmp "$folder/program.listing" "$folder/plain.listing" 2>&1); then
         echo "bench: the listings of $(basename "$file") differ:" >&2
         echo "$difference" >&2
         exit 1

@@ -1,10 +1,10 @@
 #!/usr/bin/env python3
 """Times two programs on one file, in turn, and says how they compare.
 
-times.py KCRUN PLAIN FILE SMALL [REPEATS]
+times.py PROGRAM PLAIN FILE SMALL [REPEATS]
 
 A time is the processor time of one run (user and system). SMALL is a small file: its time is nearly all start-up. Fails where the median
-of KCRUN on FILE is more than 1.5 times that of PLAIN.
+of PROGRAM on FILE is more than 1.5 times that of PLAIN.
 """
 
 import os
@@ -42,10 +42,10 @@ def report(title, times):
     """Prints a table of both programs; answers their medians."""
     print(title)
     medians = []
-    for name, found in zip(("kcrun", "plain"), times):
+    for name, found in zip(("kcrun_listing", "plain"), times):
         medians.append(statistics.median(found))
         print(f"  {name}: median {medians[-1]:7.0f} us, least {min(found):7.0f} us")
-    print(f"  kcrun/plain: median {medians[0] / medians[1]:.2f}, least {min(times[0]) / min(times[1]):.2f}")
+    print(f"  kcrun_listing/plain: median {medians[0] / medians[1]:.2f}, least {min(times[0]) / min(times[1]):.2f}")
     return medians
 
 
@@ -55,7 +55,7 @@ def main():
     large = report(f"largest file, {repeats} runs of each:", measure(programs, path, repeats))
     start = report(f"example file (start-up), {repeats} runs of each:", measure(programs, small, repeats))
     beyond = [max(a - b, 1) for a, b in zip(large, start)]
-    print(f"beyond start-up: kcrun {beyond[0]:.0f} us, plain {beyond[1]:.0f} us, kcrun/plain {beyond[0] / beyond[1]:.2f}")
+    print(f"beyond start-up: kcrun_listing {beyond[0]:.0f} us, plain {beyond[1]:.0f} us, kcrun_listing/plain {beyond[0] / beyond[1]:.2f}")
     ratio = large[0] / large[1]
     if ratio > LIMIT:
         sys.exit(f"bench: too slow: {ratio:.2f} times plain, and {LIMIT} is the limit")

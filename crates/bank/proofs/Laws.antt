@@ -1,5 +1,5 @@
 use Rattle.std.proofs.Common.{◌≡◌, ℕ, ◌<◌, List, length, get_or, Result, sym, refl, ◌∙◌, ⊎_elim, arith}
-use Rattle.bank.specs.Bank.{OnlySwap, Swaps, loaded, swapped}
+use Rattle.bank.specs.Bank.{Swaps, loaded, swapped}
 use Rattle.bank.specs.declared.NoWord.{NoWord}
 use Rattle.std.proofs.lemmas.List.{ext_get_or, get_or-set_other, get_or-set_same, length-set}
 use Rattle.std.proofs.lemmas.Bool.{cases_eq, cases_lt}
@@ -39,8 +39,3 @@ swaps_same ws i old new answer answer' after after' p q =
     each : i < length ws → (k : ℕ) → get_or after k 0 ≡ get_or after' k 0
     each lt k =
         ⊎_elim (λ e. rw e (at lt)) (λ ne. p.others_kept k ne ∙ sym (q.others_kept k ne)) (cases_eq k i)
-
--- so nothing but the definitions keeps it
-pub swaps_only : (ws : List ℕ) (i old new : ℕ) (answer : Result ℕ NoWord) (after : List ℕ) → answer ≡ loaded ws i → after ≡ swapped ws i old new → OnlySwap ws i old new answer after
-swaps_only ws i old new answer after p q =
-    record { same = λ other words law. swaps_same ws i old new other answer words after law (swaps_hold ws i old new answer after p q) }

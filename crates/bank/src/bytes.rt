@@ -19,26 +19,10 @@ impl<'a> ByteBank<'a> {
     {
         ByteBank { bytes }
     }
-
-    /// The number of the eight bytes from `at` on.
-    fn word_from(&self, at: usize) -> u64
-        requires { at + 8 ≤ length self.now.bytes.now }
-        ensures { result ≡ word_from self.now.bytes.now at }
-    {
-        u64::from_be_bytes([
-            self.bytes[at],
-            self.bytes[at + 1],
-            self.bytes[at + 2],
-            self.bytes[at + 3],
-            self.bytes[at + 4],
-            self.bytes[at + 5],
-            self.bytes[at + 6],
-            self.bytes[at + 7],
-        ])
-    }
 }
 
 /// Writes `word` into the eight bytes from `at` on.
+// By a range: nothing is known of the bytes after a write through `as_chunks_mut`.
 fn store(bytes: &mut [u8], at: usize, word: u64)
     requires { at + 8 ≤ length bytes.old }
     ensures { bytes.new ≡ with_word bytes.old at word }
@@ -57,10 +41,9 @@ impl Bank for ByteBank<'_> {
     }
 
     fn load(&self, i: u64) -> Result<u64, NoWord> {
-        if i >= self.size() {
-            return Err(NoWord);
-        }
-        Ok(self.word_from(8 * i as usize))
+        let (words, _) = self.bytes.as_chunks::<8>();
+        let word = words.get(i as usize).copied().ok_or(NoWord)?;
+        Ok(u64::from_be_bytes(word))
     }
 
     fn swap(&mut self, i: u64, old: u64, new: u64) -> Result<u64, NoWord>
@@ -71,13 +54,9 @@ impl Bank for ByteBank<'_> {
         ensures length { length self.new.bytes.now ≡ length self.old.bytes.now }
         ensures lender { self.new.bytes.ghost_name ≡ self.old.bytes.ghost_name }
     {
-        if i >= self.size() {
-            return Err(NoWord);
-        }
-        let at = 8 * i as usize;
-        let seen = self.word_from(at);
+        let seen = self.load(i)?;
         if seen == old {
-            store(self.bytes, at, new);
+            store(self.bytes, 8 * i as usize, new);
         }
         Ok(seen)
     }

@@ -2,7 +2,7 @@
 
 #![tactic(auto)]
 
-ghost use Rattle.std.specs.Prelude.{◌≡◌, ℕ, List, length};
+ghost use Rattle.std.specs.Prelude.{◌≡◌, ℕ, List, Ok, Err, if◌then◌else◌, length, nat_lt};
 ghost use Rattle.bank.specs.Bank.{OnlySwap, Swaps, loaded, swapped};
 
 mod bytes;
@@ -21,6 +21,8 @@ pub use words::WordBank;
 #[derive(Clone, Copy, PartialEq, Eq, Debug)]
 pub struct NoWord;
 
+// Between usize and u64 there is no `From`, so the banks go by `as`, which is proved to lose nothing.
+
 /// Words that are numbered from 0 on.
 pub trait Bank {
     ghost words: { Self → List ℕ };
@@ -37,6 +39,13 @@ pub trait Bank {
     fn swap(&mut self, i: u64, old: u64, new: u64) -> Result<u64, NoWord>
         ensures answer { result ≡ loaded (words self.old) i }
         ensures after { words self.new ≡ swapped (words self.old) i old new };
+}
+
+/// The number again, if a bank of that size has a word of that number.
+fn within(i: u64, size: u64) -> Result<u64, NoWord>
+    ensures { result ≡ (if nat_lt i size then Ok i else Err (record {})) }
+{
+    if i < size { Ok(i) } else { Err(NoWord) }
 }
 
 /// Swaps word `i` of any bank. The clauses say what a swap does, and that nothing else does the same.

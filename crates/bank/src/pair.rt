@@ -2,7 +2,7 @@ ghost use Rattle.std.specs.Prelude.{◌≡◌};
 ghost use Rattle.bank.specs.Bank.{loaded, swapped};
 ghost use Rattle.bank.specs.Pairs.{first_after, paired, second_after};
 
-use crate::{Bank, NoWord};
+use crate::{Bank, NoWord, within};
 
 /// The most words that a pair takes of each of its banks.
 const MOST: u64 = 1 << 62;
@@ -26,8 +26,7 @@ impl<A: Bank, B: Bank> Pair<A, B> {
     pub fn into_inner(self) -> (A, B)
         ensures { (result.0 ≡ self.first) × (result.1 ≡ self.second) }
     {
-        let Pair { first, second } = self;
-        (first, second)
+        (self.first, self.second)
     }
 }
 
@@ -39,9 +38,7 @@ impl<A: Bank, B: Bank> Bank for Pair<A, B> {
     }
 
     fn load(&self, i: u64) -> Result<u64, NoWord> {
-        if i >= self.size() {
-            return Err(NoWord);
-        }
+        let i = within(i, self.size())?;
         if i % 2 == 0 {
             self.first.load(i / 2)
         } else {
@@ -50,14 +47,12 @@ impl<A: Bank, B: Bank> Bank for Pair<A, B> {
     }
 
     fn swap(&mut self, i: u64, old: u64, new: u64) -> Result<u64, NoWord>
-        ensures answer { result ≡ loaded (paired (A.Bank.words self.old.first) (B.Bank.words self.old.second)) i }
-        ensures after { paired (A.Bank.words self.new.first) (B.Bank.words self.new.second) ≡ swapped (paired (A.Bank.words self.old.first) (B.Bank.words self.old.second)) i old new }
+        ensures answer { result ≡ loaded (⟦<Self as Bank>⟧.words self.old) i }
+        ensures after { ⟦<Self as Bank>⟧.words self.new ≡ swapped (⟦<Self as Bank>⟧.words self.old) i old new }
         ensures first { A.Bank.words self.new.first ≡ first_after (A.Bank.words self.old.first) (B.Bank.words self.old.second) i old new }
         ensures second { B.Bank.words self.new.second ≡ second_after (A.Bank.words self.old.first) (B.Bank.words self.old.second) i old new }
     {
-        if i >= self.size() {
-            return Err(NoWord);
-        }
+        let i = within(i, self.size())?;
         if i % 2 == 0 {
             self.first.swap(i / 2, old, new)
         } else {

@@ -2,7 +2,7 @@ ghost use Rattle.std.specs.Prelude.{◌≡◌, ◌+◌, ◌^◌, ◌<◌, length
 ghost use Rattle.bank.specs.Bank.{loaded, swapped};
 ghost use Rattle.bank.specs.Windows.{below_after, window};
 
-use crate::{Bank, NoWord};
+use crate::{Bank, NoWord, within};
 
 /// A part of a bank: its word `i` is word `base + i` below, for at most `count` words.
 #[derive(Drop)]
@@ -24,12 +24,7 @@ impl<B: Bank> Window<B> {
     pub fn into_inner(self) -> B
         ensures { result ≡ self.below }
     {
-        let Window {
-            below,
-            base: _,
-            count: _,
-        } = self;
-        below
+        self.below
     }
 }
 
@@ -37,33 +32,24 @@ impl<B: Bank> Bank for Window<B> {
     ghost words = { λ w. window w.base w.count (B.Bank.words w.below) };
 
     fn size(&self) -> u64
-        ensures size { result ≡ length (window self.now.base self.now.count (B.Bank.words self.now.below)) }
+        ensures size { result ≡ length (⟦<Self as Bank>⟧.words self.now) }
         ensures fits { self.now.base + result < 2 ^ 64 }
     {
-        let all = self.below.size();
-        if self.base < all {
-            self.count.min(all - self.base)
-        } else {
-            0
-        }
+        self.count.min(self.below.size().saturating_sub(self.base))
     }
 
     fn load(&self, i: u64) -> Result<u64, NoWord> {
-        if i >= self.size() {
-            return Err(NoWord);
-        }
+        let i = within(i, self.size())?;
         self.below.load(self.base + i)
     }
 
     fn swap(&mut self, i: u64, old: u64, new: u64) -> Result<u64, NoWord>
-        ensures answer { result ≡ loaded (window self.old.base self.old.count (B.Bank.words self.old.below)) i }
-        ensures after { window self.new.base self.new.count (B.Bank.words self.new.below) ≡ swapped (window self.old.base self.old.count (B.Bank.words self.old.below)) i old new }
+        ensures answer { result ≡ loaded (⟦<Self as Bank>⟧.words self.old) i }
+        ensures after { ⟦<Self as Bank>⟧.words self.new ≡ swapped (⟦<Self as Bank>⟧.words self.old) i old new }
         ensures below { B.Bank.words self.new.below ≡ below_after self.old.base self.old.count (B.Bank.words self.old.below) i old new }
         ensures place { (self.new.base ≡ self.old.base) × (self.new.count ≡ self.old.count) }
     {
-        if i >= self.size() {
-            return Err(NoWord);
-        }
+        let i = within(i, self.size())?;
         self.below.swap(self.base + i, old, new)
     }
 }

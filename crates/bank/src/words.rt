@@ -27,10 +27,7 @@ impl Bank for WordBank<'_> {
     }
 
     fn load(&self, i: u64) -> Result<u64, NoWord> {
-        if i >= self.size() {
-            return Err(NoWord);
-        }
-        Ok(self.words[i as usize])
+        self.words.get(i as usize).copied().ok_or(NoWord)
     }
 
     fn swap(&mut self, i: u64, old: u64, new: u64) -> Result<u64, NoWord>
@@ -38,10 +35,7 @@ impl Bank for WordBank<'_> {
         ensures after { self.new.words.now ≡ swapped self.old.words.now i old new }
         ensures lender { self.new.words.ghost_name ≡ self.old.words.ghost_name }
     {
-        if i >= self.size() {
-            return Err(NoWord);
-        }
-        let seen = self.words[i as usize];
+        let seen = self.load(i)?;
         if seen == old {
             self.words[i as usize] = new;
         }

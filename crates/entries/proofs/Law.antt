@@ -1,10 +1,9 @@
-use Rattle.std.proofs.Common.{◌≡◌, ℕ, zero, suc, ◌-◌, ◌^◌, ◌<◌, ◌≤◌, true, eqb, leb, ◌⊎◌, List, length, take, Decides, inl, inr, ⊎_elim, sub-one, arith}
-use Rattle.std.proofs.lemmas.Bool.{cases_eq, and_parts, and_from, leb-true, le-leb, eqb-true, eq-eqb}
-use Rattle.std.proofs.lemmas.List.{length-take-le}
+use Rattle.std.proofs.Common.{◌≡◌, ℕ, zero, suc, ◌-◌, ◌^◌, ◌<◌, ◌≤◌, leb, ◌⊎◌, List, length, Decides, inl, inr, ⊎_elim, sub-one, arith}
+use Rattle.std.proofs.lemmas.Bool.{cases_eq, and_parts, leb-true, le-leb}
 use Rattle.std.proofs.lemmas.Bool.Decides.{Decides-and, Decides-or, Decides-ltb, Decides-eqb, Decides-like}
 use Rattle.entries.specs.declared.Entry.{Entry}
 use Rattle.entries.specs.declared.list.Entries.{Entries}
-use Rattle.entries.specs.Lists.{Lawful, entry_at, lawful, may_stand, holds}
+use Rattle.entries.specs.Lists.{Lawful, entry_at, lawful, may_stand}
 use Rattle.entries.specs.Listed.{listed}
 use Rattle.entries.proofs.Each.{decides_each}
 
@@ -52,15 +51,3 @@ decides_lawful es =
 -- Every list that can be had is lawful.
 pub listed_lawful : (e : Entries) → Lawful (listed e)
 listed_lawful e = (decides_lawful (listed e)).0 (and_parts _ (lawful (listed e)) e.fit).1
-
--- A list has as many entries as it counts.
-pub listed_length : (e : Entries) → length (listed e) ≡ e.count
-listed_length e =
-    let sizes = and_parts (eqb (length e.entries) 8) (leb e.count 8) (and_parts _ (lawful (listed e)) e.fit).0 in
-    let l : e.count ≤ length e.entries = omega (arith, eqb-true _ _ sizes.0, leb-true _ _ sizes.1) in
-    length-take-le e.count e.entries l
-
--- Eight entries that begin with a lawful list hold it.
-pub holds_lawful : (es from : List Entry) → length es ≡ 8 → take (length from) es ≡ from → lawful from ≡ true → holds es (length from) ≡ true
-holds_lawful es from full same h =
-    and_from _ _ (and_from _ _ (eq-eqb (length es) 8 full) (le-leb (length from) 8 ((decides_lawful from).0 h).few)) (rw same h)

@@ -7,7 +7,7 @@ mod list;
 pub use list::{Entries, law_stands};
 
 /// What a k-CAS asks of one word: the value expected there and the value to store.
-#[derive(Clone, Copy)]
+#[derive(Clone, Copy, PartialEq, Eq, Debug)]
 pub struct Entry {
     pub word: u64,
     pub expected: u64,
@@ -15,13 +15,12 @@ pub struct Entry {
 }
 
 /// The entries are no lawful list (refusal 9).
-#[derive(Clone, Copy, Debug)]
+#[derive(Clone, Copy, PartialEq, Eq, Debug)]
 pub struct Unlawful;
 
 #[cfg(test)]
 mod tests {
     use super::*;
-    use std::test::Fail;
 
     const FREE: u64 = 2305843009213693951;
 
@@ -34,44 +33,34 @@ mod tests {
     }
 
     fn ascending() -> [Entry; 9] {
-        let mut entries = [entry(0, 0); 9];
-        for i in 0..9 {
-            entries[i] = entry(i as u64, 7);
-        }
-        entries
+        std::array::from_fn(|i| entry(i as u64, 7))
     }
 
     #[test]
-    fn one_to_eight_entries(rt: HostRuntime) -> Result<(), Fail> {
+    fn one_to_eight_entries(rt: HostRuntime) {
         let mut list = Entries::new();
         let entries = ascending();
-        assert!(rt; list.fill(&[]).is_err());
-        assert!(rt; list.fill(&entries).is_err());
+        assert_eq!(rt; list.fill(&[]), Err(Unlawful));
+        assert_eq!(rt; list.fill(&entries), Err(Unlawful));
         assert_eq!(rt; list.len(), 1, "a refused list leaves the one held");
-        assert!(rt; list.fill(&entries[1..9]).is_ok());
+        assert_eq!(rt; list.fill(&entries[1..9]), Ok(()));
         assert_eq!(rt; list.len(), 8);
-        match list.get(7) {
-            Some(last) => {
-                assert_eq!(rt; (last.word, last.new), (8, 7));
-                Ok(())
-            },
-            None => Err(Fail::new("no entry")),
-        }
+        assert_eq!(rt; list.get(7), Some(entry(8, 7)));
     }
 
     #[test]
     fn words_ascend(rt: HostRuntime) {
         let mut list = Entries::new();
-        assert!(rt; list.fill(&[entry(2, 0), entry(2, 0)]).is_err());
-        assert!(rt; list.fill(&[entry(2, 0), entry(3, 0)]).is_ok());
-        assert!(rt; list.fill(&[entry(3, 0), entry(2, 0)]).is_err());
+        assert_eq!(rt; list.fill(&[entry(2, 0), entry(2, 0)]), Err(Unlawful));
+        assert_eq!(rt; list.fill(&[entry(2, 0), entry(3, 0)]), Ok(()));
+        assert_eq!(rt; list.fill(&[entry(3, 0), entry(2, 0)]), Err(Unlawful));
         assert_eq!(rt; list.len(), 2);
     }
 
     #[test]
     fn values_fit(rt: HostRuntime) {
         let mut list = Entries::new();
-        assert!(rt; list.fill(&[entry(0, FREE + 1)]).is_err());
-        assert!(rt; list.fill(&[entry(0, FREE)]).is_ok());
+        assert_eq!(rt; list.fill(&[entry(0, FREE + 1)]), Err(Unlawful));
+        assert_eq!(rt; list.fill(&[entry(0, FREE)]), Ok(()));
     }
 }

@@ -2,8 +2,8 @@
 
 #![tactic(auto)]
 
-ghost use Rattle.std.specs.Prelude.{◌≡◌, ℕ, ◌<◌};
-ghost use Rattle.word.specs.Word.{decoding, reading_of, raw_of, packed_of, Says, Writable};
+ghost use Rattle.std.specs.Prelude.{◌≡◌, ℕ, ◌/◌, ◌%◌, ◌<◌, ◌&&◌, Some, None, if◌then◌else◌, nat_lt};
+ghost use Rattle.word.specs.Word.{decoding, mark_in, reading_of, raw_of, packed_of, Says, Writable};
 
 /// The name of one creation of a descriptor: the core it was made for and the sequence number it took.
 #[derive(Clone, Copy, PartialEq, Eq, Debug)]
@@ -25,6 +25,29 @@ pub enum Word {
     Foreign(u64),
 }
 
+// The tags, in bits 0 and 1.
+const PLAIN: u64 = 0;
+
+const PLACING: u64 = 1;
+
+const OPERATION: u64 = 2;
+
+/// The mark in bits 2 to 62, if its core is one of eight and its number is above 0.
+fn marked(raw: u64) -> Option<Mark>
+    ensures { result ≡ (if nat_lt (raw / 4 % 16384) 8 && nat_lt 0 (raw / 65536) then Some (mark_in raw) else None) }
+{
+    let core = (raw >> 2) % 16384;
+    let number = raw >> 16;
+    if core > 7 || number == 0 {
+        return None;
+    }
+    // As `u8`: proved to fit, where `try_from` would test it again.
+    Some(Mark {
+        core: core as u8,
+        number,
+    })
+}
+
 /// The word that the bits spell out: tag in bits 0 and 1, core in bits 2 to 15, number in bits 16 to 62.
 fn decoded(raw: u64) -> Word
     ensures { result ≡ decoding raw }
@@ -33,31 +56,23 @@ fn decoded(raw: u64) -> Word
         return Word::Foreign(raw);
     }
     let tag = raw % 4;
-    if tag == 0 {
+    // Before the mark is looked for: most words are plain.
+    if tag == PLAIN {
         return Word::Plain(raw >> 2);
     }
-    let core = (raw >> 2) % 16384;
-    let number = raw >> 16;
-    if tag == 3 || core > 7 || number == 0 {
-        return Word::Foreign(raw);
-    }
-    let mark = Mark {
-        core: core as u8,
-        number,
-    };
-    if tag == 1 {
-        Word::Placing(mark)
-    } else {
-        Word::Operation(mark)
+    match (tag, marked(raw)) {
+        (PLACING, Some(mark)) => Word::Placing(mark),
+        (OPERATION, Some(mark)) => Word::Operation(mark),
+        _ => Word::Foreign(raw),
     }
 }
 
 /// A mark and its tag in one raw word.
-fn packed(tag: u8, mark: Mark) -> u64
+fn packed(tag: u64, mark: Mark) -> u64
     requires { tag < 4 }
     ensures { result ≡ packed_of tag mark }
 {
-    (mark.number << 16) + ((mark.core as u64) << 2) + tag as u64
+    (mark.number << 16) + (u64::from(mark.core) << 2) + tag
 }
 
 fn encoded(word: Word) -> u64
@@ -65,14 +80,15 @@ fn encoded(word: Word) -> u64
 {
     match word {
         Word::Plain(value) => value << 2,
-        Word::Placing(mark) => packed(1, mark),
-        Word::Operation(mark) => packed(2, mark),
+        Word::Placing(mark) => packed(PLACING, mark),
+        Word::Operation(mark) => packed(OPERATION, mark),
         Word::Foreign(raw) => raw,
     }
 }
 
 impl Word {
-    /// What the raw word says: its only reading, from which it comes back.
+    /// What the raw word says: its only reading, from which it comes back. It is no `From`, which has one relation to promise and not four
+    /// facts, and `raw` can be none, since a word out of range loses bits there.
     pub fn read(raw: u64) -> Word
         ensures is { result ≡ reading_of raw }
         ensures says { Says raw result }

@@ -13,7 +13,7 @@ const ZERO: Entry = Entry {
     new: 0,
 };
 
-const VALUE_LIMIT: u64 = 2305843009213693952;
+const VALUE_LIMIT: u64 = 1 << 61;
 
 /// Whether the entry at `i` may stand there: its values fit, and its word is above that of the entry before it.
 fn fits(entries: &[Entry], i: usize) -> bool
@@ -25,13 +25,14 @@ fn fits(entries: &[Entry], i: usize) -> bool
     values && (i == 0 || entries[i - 1].word < entry.word)
 }
 
-/// Whether the entries are a lawful list. It stops at the first entry that may not stand where it is.
+/// Whether the entries are a lawful list.
 fn is_lawful(entries: &[Entry]) -> bool
     ensures { result ≡ lawful entries.entry.now }
 {
-    if entries.len() < 1 || entries.len() > MOST {
+    if !(1..=MOST).contains(&entries.len()) {
         return false;
     }
+    // By index, and it stops at the first entry that may not stand where it is: a rule of the project for every such check.
     for i in 0..entries.len() {
         if !fits(entries, i) {
             return false;
@@ -47,7 +48,7 @@ fn padded(entries: &[Entry]) -> [Entry; MOST]
     ensures starts { take (length entries.entry.now) result ≡ entries.entry.now }
 {
     let mut all = [ZERO; MOST];
-    all[0..entries.len()].copy_from_slice(entries);
+    all[..entries.len()].copy_from_slice(entries);
     all
 }
 
@@ -74,6 +75,7 @@ impl Entries {
         }
         *self = Entries {
             entries: padded(from),
+            // Proved to fit: 8 at most.
             count: from.len() as u8,
         };
         Ok(())
@@ -83,7 +85,7 @@ impl Entries {
     pub fn as_slice(&self) -> &[Entry]
         ensures { result.now ≡ listed self.now }
     {
-        &self.entries[0..self.count as usize]
+        &self.entries[..usize::from(self.count)]
     }
 
     /// How many entries there are.
@@ -97,12 +99,7 @@ impl Entries {
     pub fn get(&self, i: usize) -> Option<Entry>
         ensures { result ≡ entry_of self.now i }
     {
-        let entries = self.as_slice();
-        if i < entries.len() {
-            Some(entries[i])
-        } else {
-            None
-        }
+        self.as_slice().get(i).copied()
     }
 }
 

@@ -2,5 +2,5 @@ use Rattle.bank.proofs.WindowLaws.{length_window}
 use Rattle.bank.proofs.window.WindowBank.size.Goals as goal
 use Rattle.std.proofs.Common.{rules}
 
-pub returns-then-self-all : goal.returns-then-self-all
-returns-then-self-all g c = search (rules, length_window)
+pub returns-clause-size : goal.returns-clause-size
+returns-clause-size g c = search (rules, length_window)

@@ -3,12 +3,11 @@ use Rattle.entries.specs.declared.Entry.{Entry}
 use Rattle.entries.specs.declared.list.Entries.{Entries}
 use Rattle.descriptor.specs.declared.Descriptor.{Descriptor}
 use Rattle.descriptor.specs.declared.Overtaken.{Overtaken}
-use Rattle.descriptor.specs.declared.contents.State.{State}
 use Rattle.descriptor.specs.declared.contents.Outcome.{Outcome}
 use Rattle.descriptor.specs.declared.contents.Operation.{Operation}
 use Rattle.descriptor.specs.declared.contents.Placing.{Placing}
 use Rattle.descriptor.specs.Descriptors.{last_number, fresh, created, changed}
-use Rattle.descriptor.specs.Contents.{undecided, with_outcome, count_of, entry_in, value_in}
+use Rattle.descriptor.specs.Contents.{undecided, with_outcome, count_of, entry_in, value_in, State}
 use Rattle.cores.specs.declared.place.Place.{Place}
 use Rattle.cores.specs.declared.place.Place.TheVariants.{Idle, Finished, Look, Begin, Fetch, Make, Try, Decide, Clear, Settle}
 use Rattle.cores.specs.declared.place.Own.{Own}
@@ -83,6 +82,10 @@ new_core first =
 -- The core with another place, another descriptor of each kind.
 abbrev pub with_place : Core → Place → Core
 with_place c p = record { place = p; own = c.own; halted = c.halted; operation = c.operation; placing = c.placing }
+
+-- with an operation of its own, at its home
+abbrev pub with_own : Core → Own → Core
+with_own c mine = record { place = home mine; own = mine; halted = c.halted; operation = c.operation; placing = c.placing }
 
 abbrev pub with_operation : Core → Descriptor Operation → Core
 with_operation c d = record { place = c.place; own = c.own; halted = c.halted; operation = d; placing = c.placing }

@@ -1,6 +1,11 @@
-use Rattle.std.specs.Prelude.{ℕ}
+use Rattle.std.specs.Prelude.{ℕ, Some, None, Ok, Err, Option, Result}
 use Rattle.cores.specs.declared.table.Refusal.{Refusal}
 use Rattle.cores.specs.declared.table.Refusal.TheVariants.{Closed, Open, Setting as BadSetting, Tagged, NoCore, Halted, Busy, AtRest, List as BadList, NoWord, NoRight, UsedUp, NoAnswer, File}
+
+-- why something is refused, by what a test of it answers
+abbrev pub refusal_in : {X : Type 0} → Result X Refusal → Option Refusal
+refusal_in (Ok x) = None
+refusal_in (Err q) = Some q
 
 -- each refusal's number
 abbrev pub number_of : Refusal → ℕ

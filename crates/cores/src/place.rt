@@ -1,10 +1,13 @@
 //! Where a core stands between two of its steps.
+ghost use Rattle.std.specs.Prelude.{◌≡◌};
+ghost use Rattle.cores.specs.Cores.{home};
+
 use descriptor::{Outcome, Placing};
 use entries::Entry;
 use word::Mark;
 
 /// Work on one entry of an operation.
-#[derive(Clone, Copy)]
+#[derive(Clone, Copy, PartialEq, Eq, Debug)]
 pub struct Work {
     /// The operation's mark, T in the rules.
     pub operation: Mark,
@@ -15,7 +18,7 @@ pub struct Work {
 }
 
 /// Where a core goes on once a placing mark is settled.
-#[derive(Clone, Copy)]
+#[derive(Clone, Copy, PartialEq, Eq, Debug)]
 pub enum Then {
     /// Look at this word again.
     Look(u64),
@@ -28,7 +31,7 @@ pub enum Then {
 }
 
 /// The three steps of Clear.
-#[derive(Clone, Copy)]
+#[derive(Clone, Copy, PartialEq, Eq, Debug)]
 pub enum Clearing {
     /// Read the entry.
     Read,
@@ -39,18 +42,18 @@ pub enum Clearing {
 }
 
 /// The three steps of Settle.
-#[derive(Clone, Copy)]
+#[derive(Clone, Copy, PartialEq, Eq, Debug)]
 pub enum Settling {
     /// Read the contents of the placing mark.
     Read,
     /// Read the state of the operation that the contents name.
     State(Placing),
-    /// Swap the word from the placing mark; `true` where that operation was read undecided.
+    /// Swap the word from the placing mark; `true` where that operation was read undecided. The contents stand in both cases.
     Swap(Placing, bool),
 }
 
 /// Where a core stands: the rule that its next step follows.
-#[derive(Clone, Copy)]
+#[derive(Clone, Copy, PartialEq, Eq, Debug)]
 pub enum Place {
     /// No operation.
     Idle,
@@ -74,12 +77,26 @@ pub enum Place {
     Settle(Mark, Settling, Then),
 }
 
-/// What a core runs itself. Its home, the first place of that operation, follows from it.
-#[derive(Clone, Copy)]
+/// What a core runs itself. Its home, the first place of that operation, follows from it. `Nothing` is one of three cases that are told apart
+/// together: under an `Option` the other two would stand a layer deeper, and no method of an `Option` would be used.
+#[derive(Clone, Copy, PartialEq, Eq, Debug)]
 pub enum Own {
     Nothing,
     /// A read of this word.
     Read(u64),
     /// The k-CAS of this mark, M in the rules.
     List(Mark),
+}
+
+impl Own {
+    /// Home: the first place of the operation.
+    pub fn home(self) -> Place
+        ensures { result ≡ home self }
+    {
+        match self {
+            Own::Nothing => Place::Idle,
+            Own::Read(word) => Place::Look(word),
+            Own::List(mark) => Place::Begin(mark),
+        }
+    }
 }

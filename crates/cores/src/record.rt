@@ -2,7 +2,8 @@
 ghost use Rattle.std.specs.Prelude.{◌≡◌, ◌+◌, Some, None};
 ghost use Rattle.descriptor.specs.Descriptors.{reading, creation, created};
 ghost use Rattle.cores.specs.declared.place.Own.TheVariants.{Read, List};
-ghost use Rattle.cores.specs.Cores.{is_idle, is_finished, step_refused, new_core, with_place, with_placing, halted, collection, after_collect, after_start, after_decision, state_read, begin_read, entry_read, value_read};
+ghost use Rattle.cores.specs.Refusals.{refusal_in};
+ghost use Rattle.cores.specs.Cores.{is_idle, is_finished, step_refused, new_core, with_place, with_own, with_placing, halted, collection, after_collect, after_start, after_decision, state_read, begin_read, entry_read, value_read};
 
 use super::place::{Own, Place};
 use super::table::{Core, Refusal};
@@ -43,14 +44,14 @@ impl Core {
         matches!(self.place, Place::Finished(_))
     }
 
-    /// Why a step of the core is refused, if it is: it is idle or finished, or a creation is due and every number is taken.
-    pub fn step_refusal(&self) -> Option<Refusal>
-        ensures { result ≡ step_refused self.now }
+    /// Whether a step of the core is granted. It is refused where the core is idle or finished, or a creation is due and every number is taken.
+    pub fn may_step(&self) -> Result<(), Refusal>
+        ensures { refusal_in result ≡ step_refused self.now }
     {
         match self.place {
-            Place::Idle | Place::Finished(_) => Some(Refusal::AtRest),
-            Place::Make(_, _) if self.placing.is_used_up() => Some(Refusal::UsedUp),
-            _ => None,
+            Place::Idle | Place::Finished(_) => Err(Refusal::AtRest),
+            Place::Make(_, _) if self.placing.is_used_up() => Err(Refusal::UsedUp),
+            _ => Ok(()),
         }
     }
 
@@ -59,6 +60,14 @@ impl Core {
         ensures { self.new ≡ with_place self.old place }
     {
         self.place = place;
+    }
+
+    /// The core takes up an operation of its own, at its home.
+    fn take_up(&mut self, own: Own)
+        ensures { self.new ≡ with_own self.old own }
+    {
+        self.place = own.home();
+        self.own = own;
     }
 
     /// Stops the core where it stands.
@@ -76,8 +85,7 @@ impl Core {
         let Place::Finished(value) = self.place else {
             return None;
         };
-        self.place = Place::Idle;
-        self.own = Own::Nothing;
+        self.take_up(Own::Nothing);
         Some(value)
     }
 
@@ -141,9 +149,7 @@ impl Core {
         ensures after { self.new ≡ after_start self.old (List (record { core = core; number = self.old.operation.last + 1 })) (Some list) }
     {
         let number = self.operation.create(Operation::new(Some(list)))?;
-        let mine = Mark { core, number };
-        self.place = Place::Begin(mine);
-        self.own = Own::List(mine);
+        self.take_up(Own::List(Mark { core, number }));
         Ok(number)
     }
 
@@ -153,8 +159,7 @@ impl Core {
         ensures after { self.new ≡ after_start self.old (Read word) None }
     {
         let number = self.operation.create(Operation::new(None))?;
-        self.place = Place::Look(word);
-        self.own = Own::Read(word);
+        self.take_up(Own::Read(word));
         Ok(number)
     }
 }
@@ -172,19 +177,14 @@ mod tests {
         assert_eq!(rt; kept.start_list(2, Entries::new())?, 5);
         assert!(rt; !kept.is_idle());
         assert!(rt; !kept.is_finished());
-        match kept.place {
-            Place::Begin(mark) => {
-                assert_eq!(rt; mark, Mark { core: 2, number: 5 });
-                Ok(())
-            },
-            _ => Err(Fail::new("not at Begin")),
-        }
+        assert_eq!(rt; kept.place, Place::Begin(Mark { core: 2, number: 5 }));
+        Ok(())
     }
 
     #[test]
     fn an_idle_core_has_no_answer(rt: HostRuntime) {
         let mut kept = Core::new(1);
-        assert!(rt; kept.collect().is_none());
+        assert_eq!(rt; kept.collect(), None);
         assert!(rt; kept.is_idle());
     }
 
@@ -193,9 +193,9 @@ mod tests {
         let mut kept = Core::new(LAST_NUMBER);
         assert_eq!(rt; kept.start_read(0)?, LAST_NUMBER);
         kept.arrive(Place::Finished(9));
-        assert_eq!(rt; kept.collect().unwrap_or(0), 9);
-        assert!(rt; kept.start_read(0).is_err());
-        assert!(rt; kept.start_list(0, Entries::new()).is_err());
+        assert_eq!(rt; kept.collect(), Some(9));
+        assert_eq!(rt; kept.start_read(0), Err(UsedUp));
+        assert_eq!(rt; kept.start_list(0, Entries::new()), Err(UsedUp));
         assert!(rt; kept.is_idle());
         Ok(())
     }
@@ -205,11 +205,9 @@ mod tests {
         let mut kept = Core::new(1);
         let old = kept.start_list(0, Entries::new())?;
         let newest = kept.start_list(0, Entries::new())?;
-        assert!(rt; kept.decide(old, Outcome::Succeeded).is_err());
-        match kept.operation.read(newest)?.state() {
-            State::Undecided => Ok(()),
-            _ => Err(Fail::new("altered")),
-        }
+        assert_eq!(rt; kept.decide(old, Outcome::Succeeded), Err(Overtaken));
+        assert_eq!(rt; kept.operation.read(newest)?.state(), None);
+        Ok(())
     }
 
     #[test]
@@ -218,12 +216,10 @@ mod tests {
         let number = kept.start_list(0, Entries::new())?;
         kept.decide(number, Outcome::Failed(3))?;
         kept.decide(number, Outcome::Succeeded)?;
-        match kept.operation.read(number)?.state() {
-            State::Failed(i) => {
-                assert_eq!(rt; i, 3);
-                Ok(())
-            },
-            _ => Err(Fail::new("not failed")),
-        }
+        assert_eq!(rt;
+            kept.operation.read(number)?.state(),
+            Some(Outcome::Failed(3))
+        );
+        Ok(())
     }
 }

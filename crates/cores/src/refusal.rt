@@ -1,11 +1,21 @@
-//! The refusals' numbers.
+//! The refusals' numbers, and what becomes a refusal under `?`.
 ghost use Rattle.std.specs.Prelude.{◌≡◌};
 ghost use Rattle.cores.specs.Refusals.{number_of};
+ghost use Rattle.cores.specs.declared.table.Refusal.TheVariants as refusal;
 
 use super::table::Refusal;
+use descriptor::UsedUp;
+
+impl From<UsedUp> for Refusal {
+    ghost from_gives = { λ _ r. r ≡ refusal.UsedUp };
+
+    fn from(_e: UsedUp) -> Refusal {
+        Self::UsedUp
+    }
+}
 
 impl Refusal {
-    /// Its number in the order in which the refusals are tested.
+    /// Its number in the order in which the refusals are tested. It is no `From`: the number leaves out which word or place is meant.
     pub fn number(self) -> u64
         ensures { result ≡ number_of self }
     {

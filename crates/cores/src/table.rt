@@ -15,9 +15,10 @@ pub struct Core {
 /// All that a machine keeps beside its bank.
 #[derive(Clone, Copy)]
 pub struct Table {
-    /// Whether the machine is open.
+    /// Whether the machine is open. A closed machine has a table too, of zeros: under an `Option` each definition that reads one of its
+    /// fields would tell the two cases apart.
     pub running: bool,
-    /// How many cores there are, of the eight.
+    /// How many cores there are, of the eight: a fixed array, since the block is bounded and takes no memory.
     pub count: u8,
     /// How many words are protected, from word 0 up.
     pub protected: u64,
@@ -27,7 +28,7 @@ pub struct Table {
 }
 
 /// What a machine is opened with.
-#[derive(Clone, Copy)]
+#[derive(Clone, Copy, PartialEq, Eq, Debug)]
 pub struct Setting {
     pub cores: u8,
     /// The first sequence number, of both kinds on every core.
@@ -39,7 +40,7 @@ pub struct Setting {
 }
 
 /// Why a call is refused, in the order in which the refusals are tested.
-#[derive(Clone, Copy)]
+#[derive(Clone, Copy, PartialEq, Eq, Debug)]
 pub enum Refusal {
     Closed,
     Open,

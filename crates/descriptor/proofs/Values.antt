@@ -1,20 +1,11 @@
-use Rattle.std.proofs.Common.{◌≡◌, ℕ, ◌+◌, ◌<◌, ◌≤◌, true, eqb, List, length, get_or, drop, sym, ap, ◌∙◌, add-one, drop-cons}
-use Rattle.std.proofs.lemmas.List.{drop_all}
-use Rattle.std.proofs.lemmas.Bool.{ne_eqb}
+use Rattle.std.proofs.Common.{◌≡◌, ◌==◌, ℕ, List, [], ◌∷◌, refl, arith}
+use Rattle.std.specs.List.{find}
+use Rattle.std.specs.Option.{option_map, unwrap_or}
 use Rattle.entries.specs.declared.Entry.{Entry}
-use Rattle.descriptor.specs.declared.contents.State.{State}
-use Rattle.descriptor.specs.Contents.{value_by, value_among}
+use Rattle.descriptor.specs.Contents.{State, value_by, value_among}
 
--- The value that a list of entries gives a word, entry by entry.
-
-pub value_here : (s : State) (es : List Entry) (d : Entry) (w i : ℕ) → i < length es → eqb (get_or es i d).word w ≡ true → value_among s (drop i es) w ≡ value_by s (get_or es i d)
+-- What a list of entries gives a word is what the first entry that names it gives, and 0 where none does.
+pub value_of_found : (s : State) (es : List Entry) (w : ℕ) → unwrap_or (option_map (value_by s) (find (λ (e : Entry). e.word == w) es)) 0 ≡ value_among s es w
 unfolding value_among
-value_here s es d w i h e = ap (λ (xs : List Entry). value_among s xs w) (drop-cons es i d h) ∙ rw e
-
-pub value_later : (s : State) (es : List Entry) (d : Entry) (w i : ℕ) → i < length es → ((get_or es i d).word ≡ w → ⊥) → value_among s (drop i es) w ≡ value_among s (drop (i + 1) es) w
-unfolding value_among
-value_later s es d w i h e = ap (λ (xs : List Entry). value_among s xs w) (drop-cons es i d h) ∙ rw (ne_eqb _ _ e) (ap (λ (n : ℕ). value_among s (drop n es) w) (sym (add-one i)))
-
-pub value_none : (s : State) (es : List Entry) (w i : ℕ) → length es ≤ i → value_among s (drop i es) w ≡ 0
-unfolding value_among
-value_none s es w i h = ap (λ (xs : List Entry). value_among s xs w) (drop_all i es h)
+value_of_found s [] w = refl
+value_of_found s (e ∷ es) w = let later = value_of_found s es w in grind (arith, later)

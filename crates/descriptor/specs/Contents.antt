@@ -3,14 +3,16 @@ use Rattle.entries.specs.declared.Entry.{Entry}
 use Rattle.entries.specs.declared.list.Entries.{Entries}
 use Rattle.entries.specs.Listed.{listed, entry_of}
 use Rattle.descriptor.specs.declared.contents.Operation.{Operation}
-use Rattle.descriptor.specs.declared.contents.State.{State}
-use Rattle.descriptor.specs.declared.contents.State.TheVariants.{Undecided, Succeeded, Failed}
 use Rattle.descriptor.specs.declared.contents.Outcome.{Outcome}
-use Rattle.descriptor.specs.declared.contents.Outcome.TheVariants.{Succeeded as to_succeed, Failed as to_fail}
+use Rattle.descriptor.specs.declared.contents.Outcome.TheVariants.{Succeeded, Failed}
+
+-- How far an operation is: what it is decided to, and nothing while it is undecided.
+abbrev pub State : Type 0
+State = Option Outcome
 
 -- an operation that is not yet decided
 abbrev pub undecided : Option Entries → Operation
-undecided l = record { list = l; state = Undecided }
+undecided l = record { list = l; state = None }
 
 -- the number of entries of an operation with this list, 0 for a read
 abbrev pub count_of : Option Entries → ℕ
@@ -29,9 +31,9 @@ entries_of None = []
 
 -- what an entry gives its word in this state: the new value where the operation succeeded, and otherwise the expected one
 abbrev pub value_by : State → Entry → ℕ
-value_by Undecided e = e.expected
-value_by Succeeded e = e.new
-value_by (Failed i) e = e.expected
+value_by None e = e.expected
+value_by (Some Succeeded) e = e.new
+value_by (Some (Failed i)) e = e.expected
 
 -- what the entry that names word i gives it; 0 where none does
 unfoldable pub value_among : State → List Entry → ℕ → ℕ
@@ -42,16 +44,10 @@ value_among s (e ∷ es) i = cond (e.word == i) (value_by s e) (value_among s es
 abbrev pub value_in : Operation → ℕ → ℕ
 value_in o i = value_among o.state (entries_of o.list) i
 
--- the state that an outcome leads to
-abbrev pub state_of : Outcome → State
-state_of to_succeed = Succeeded
-state_of (to_fail i) = Failed i
-
--- the state after a decision
+-- the state after a decision: only one that is undecided takes the outcome
 abbrev pub decided : State → Outcome → State
-decided Undecided o = state_of o
-decided Succeeded o = Succeeded
-decided (Failed i) o = Failed i
+decided None o = Some o
+decided (Some x) o = Some x
 
 -- an operation after a decision
 abbrev pub with_outcome : Operation → Outcome → Operation
@@ -64,5 +60,5 @@ after_all s (o ∷ os) = after_all (decided s o) os
 
 -- A state leaves undecided once: the first outcome stays, and a decided state never changes.
 pub record DecidedOnce : Type 0 where
-  pub first_stays : (o : Outcome) (os : List Outcome) → after_all Undecided (o ∷ os) ≡ state_of o
-  pub decided_stays : (s : State) (os : List Outcome) → (s ≢ Undecided) → after_all s os ≡ s
+  pub first_stays : (o : Outcome) (os : List Outcome) → after_all None (o ∷ os) ≡ Some o
+  pub decided_stays : (s : State) (os : List Outcome) → (s ≢ None) → after_all s os ≡ s

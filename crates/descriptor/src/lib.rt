@@ -22,14 +22,15 @@ pub struct Descriptor<T> {
 pub const LAST_NUMBER: u64 = 140737488355327;
 
 /// Every number is taken (refusal 12).
-#[derive(Clone, Copy, Debug)]
+#[derive(Clone, Copy, PartialEq, Eq, Debug)]
 pub struct UsedUp;
 
 /// The number is not that of the newest creation.
-#[derive(Clone, Copy, Debug)]
+#[derive(Clone, Copy, PartialEq, Eq, Debug)]
 pub struct Overtaken;
 
-/// A change of contents in place.
+/// A change of contents in place. It is no closure: its ghost member is the function that it makes, so that what a change leaves is an
+/// equation, and nothing is required of a caller.
 pub trait Change<T> {
     ghost changes: { Self → T → T };
 
@@ -123,10 +124,8 @@ mod tests {
         };
         assert!(rt; kept.read(first).is_err());
         assert!(rt; kept.change(first, success).is_err());
-        match kept.read(second)?.state() {
-            State::Undecided => Ok(()),
-            _ => Err(Fail::new("altered")),
-        }
+        assert_eq!(rt; kept.read(second)?.state(), None);
+        Ok(())
     }
 
     #[test]
@@ -145,12 +144,7 @@ mod tests {
                 outcome: Outcome::Succeeded,
             },
         )?;
-        match kept.read(number)?.state() {
-            State::Failed(i) => {
-                assert_eq!(rt; i, 3);
-                Ok(())
-            },
-            _ => Err(Fail::new("not failed")),
-        }
+        assert_eq!(rt; kept.read(number)?.state(), Some(Outcome::Failed(3)));
+        Ok(())
     }
 }

@@ -2,26 +2,13 @@
 
 #![tactic(auto)]
 
-use anyhow::anyhow;
-use report::{NoMemory, report};
-use runfile::reader::MOST_BYTES;
-use std::io;
-use std::io::{Read, Write};
-
-/// What stands on standard input, up to one byte more than a run file may have.
-fn input(rt: &HostRuntime) -> io::Result<Vec<u8>> {
-    let mut bytes = Vec::new(rt.alloc());
-    rt.stdin()
-        .take(MOST_BYTES as u64 + 1)
-        .read_to_end(&mut bytes)?;
-    Ok(bytes)
-}
+use report::report;
+use runfile::input::bytes_of;
+use std::io::Write;
 
 fn main(rt: HostRuntime) -> anyhow::Result<()> {
-    let bytes = input(&rt)?;
-    match report(rt.alloc(), bytes.as_slice()) {
-        Ok(text) => rt.stdout().write_all(text.as_slice())?,
-        Err(NoMemory) => return Err(anyhow!("no memory for the run")),
-    }
+    let bytes = bytes_of(rt.alloc(), rt.stdin())?;
+    let text = report(rt.alloc(), bytes.as_slice())?;
+    rt.stdout().write_all(text.as_slice())?;
     Ok(())
 }

@@ -1,3 +1,1 @@
-pub mod Adding
-pub mod Joining
 pub mod Letters

@@ -3,7 +3,9 @@ use Rattle.std.specs.List.{flat_map}
 use Rattle.cores.specs.declared.table.Refusal.{Refusal}
 use Rattle.cores.specs.Refusals.{number_of}
 use Rattle.runfile.specs.declared.file.Call.{Call}
+use Rattle.runfile.specs.declared.file.Fault.TheVariants.{At}
 use Rattle.runfile.specs.Format.{letter}
+use Rattle.runfile.specs.Reading.{fault_text}
 
 -- The lines of a listing, as the bytes of their text. Numbers are decimal, and one space stands between two fields.
 
@@ -33,6 +35,6 @@ spaced v = codes " " ++ decimal v
 abbrev pub words_line : List ℕ → List ℕ
 words_line vs = codes "w" ++ flat_map spaced vs
 
--- a fault is f and its place
+-- a fault is f and its place, as the fault prints itself
 abbrev pub fault_line : ℕ → List ℕ
-fault_line place = codes "f " ++ decimal place
+fault_line place = fault_text (At place)

@@ -1,10 +1,9 @@
 //! The lines of a listing.
-ghost use Rattle.std.specs.Prelude.{◌≡◌, Some};
-ghost use Rattle.runfile.specs.Format.{letter};
+ghost use Rattle.std.specs.Prelude.{Some};
 ghost use Rattle.listing.specs.Lines.{refusal_text, opening_line, answer_text, call_line, words_line, fault_line};
 
 use cores::table::Refusal;
-use runfile::file::{Action, Call};
+use runfile::file::{Call, Fault};
 use std::fmt;
 
 /// A refusal, as a line has it.
@@ -16,18 +15,6 @@ impl fmt::Display for Refused {
 
     fn fmt<W: fmt::Write>(&self, f: &mut fmt::Formatter<W>) -> fmt::Result {
         write!(f, "r{}", self.0.number())
-    }
-}
-
-/// A call's letter.
-pub(crate) fn letter_of(action: Action) -> u8
-    ensures { result ≡ letter action }
-{
-    match action {
-        Action::Start => b'b',
-        Action::Step => b's',
-        Action::Collect => b'c',
-        Action::Halt => b'h',
     }
 }
 
@@ -71,11 +58,12 @@ pub struct CallLine {
 impl fmt::Display for CallLine {
     ghost output = { λ x. Some (call_line x.call x.answer) };
 
+    #[tactic(auto, using(crate::proofs::Letters::encode_letter))]
     fn fmt<W: fmt::Write>(&self, f: &mut fmt::Formatter<W>) -> fmt::Result {
         write!(
             f,
             "{} {} {}",
-            char::from(letter_of(self.call.action)),
+            char::from(u8::from(self.call.action)),
             self.call.core,
             Answer(self.answer)
         )
@@ -98,7 +86,7 @@ impl fmt::Display for WordsLine<'_> {
     }
 }
 
-/// The line of a faulty file.
+/// The line of a faulty file, which `Fault::At` prints; the lines of a listing have their types here.
 #[derive(Clone, Copy)]
 pub struct FaultLine {
     pub place: usize,
@@ -108,6 +96,6 @@ impl fmt::Display for FaultLine {
     ghost output = { λ x. Some (fault_line x.place) };
 
     fn fmt<W: fmt::Write>(&self, f: &mut fmt::Formatter<W>) -> fmt::Result {
-        write!(f, "f {}", self.place)
+        write!(f, "{}", Fault::At(self.place))
     }
 }

@@ -2,7 +2,8 @@
 ghost use Rattle.std.specs.Prelude.{◌≡◌, IfOk};
 ghost use Rattle.listing.specs.Listing.{listing};
 
-use super::pushes::{push_calls, push_opening, push_words};
+use super::lines::{OpeningLine, WordsLine};
+use super::pushes::Text;
 use cores::table::Refusal;
 use runfile::file::Call;
 use std::alloc::{AllocError, Global};
@@ -11,6 +12,7 @@ use std::alloc::{AllocError, Global};
 const LINE_ROOM: usize = 8;
 
 /// What a run answered: its opening, its calls with their answers in order, and the words at its end.
+/// The calls stand in the file and the answers come from the run, so they are two slices, and neither is copied.
 #[derive(Clone, Copy)]
 pub struct Listing<'a> {
     pub opened: Result<(), Refusal>,
@@ -21,16 +23,16 @@ pub struct Listing<'a> {
 
 impl Listing<'_> {
     /// The bytes of the listing's text, unless memory is wanting.
-    pub fn bytes(&self, heap: Global) -> Result<Vec<u8>, AllocError>
+    pub fn bytes(&self, alloc: Global) -> Result<Vec<u8>, AllocError>
         ensures { IfOk result (λ v. v.items ≡ listing self.now.opened self.now.calls.now self.now.answers.now self.now.words.now) }
     {
         let room = self.answers.len().saturating_mul(LINE_ROOM);
-        let mut text = Vec::with_capacity(heap, room)?;
-        push_opening(&mut text, self.opened)?;
+        let mut text = Text::with_room(alloc, room)?;
+        text.push_line(OpeningLine(self.opened))?;
         if self.opened.is_ok() {
-            push_calls(&mut text, self.calls, self.answers)?;
-            push_words(&mut text, self.words)?;
+            text.push_calls(self.calls, self.answers)?;
+            text.push_line(WordsLine(self.words))?;
         }
-        Ok(text)
+        Ok(text.bytes)
     }
 }

@@ -1,8 +1,6 @@
-use Rattle.std.proofs.Common.{◌≡◌, ℕ, ◌≤◌, min, Bool, true, false, cond, List, ◌++◌, length, take, Some, None, Ok, Err, Option, Result, sym, refl, ap, ◌∙◌, arith}
+use Rattle.std.proofs.Common.{◌≡◌, ℕ, ◌≤◌, min, Bool, true, false, cond, List, length, Some, None, Ok, Err, Option, Result, sym, refl, ap, ◌∙◌, arith}
 use Rattle.std.proofs.lemmas.Bool.Decides.{nat_tests}
-use Rattle.std.proofs.lemmas.List.{take_all, take-append-le}
 use Rattle.bank.proofs.Listed.{length_listed}
-use Rattle.entries.specs.declared.list.Entries.{Entries}
 use Rattle.cores.specs.declared.table.Refusal.{Refusal}
 use Rattle.cores.specs.declared.table.Refusal.TheVariants as refusal
 use Rattle.cores.specs.declared.table.Setting.{Setting}
@@ -54,13 +52,13 @@ module _ {B : Type 0} (words : B → List ℕ) (bank : B) (s : Setting) (m n : M
   open_refused q e = refused_by (shut (words bank)) s q (sym e ∙ answered)
 
 -- the machine is open before the close, whatever was called
-pub still_open : (ws : List ℕ) (s : Setting) (ls : List (Option Entries)) (qs : List Request) (v u : World) → refusal_of (shut ws) (opens s) ≡ None → v ≡ opened (shut ws) s → u ≡ after_requests v ls qs → u.table.running ≡ true
-still_open ws s ls qs v u e v-is u-is =
-    ap (λ (x : World). x.table.running) (u-is ∙ ap (λ (x : World). after_requests x ls qs) v-is) ∙ running_end ws s ls qs e
+pub still_open : (ws : List ℕ) (s : Setting) (qs : List Request) (v u : World) → refusal_of (shut ws) (opens s) ≡ None → v ≡ opened (shut ws) s → u ≡ after_requests v qs → u.table.running ≡ true
+still_open ws s qs v u e v-is u-is =
+    ap (λ (x : World). x.table.running) (u-is ∙ ap (λ (x : World). after_requests x qs) v-is) ∙ running_end ws s qs e
 
-pub closed_words : (ws : List ℕ) (s : Setting) (ls : List (Option Entries)) (qs : List Request) (v u x : World) → v ≡ opened (shut ws) s → u ≡ after_requests v ls qs → x ≡ closed u → x.words ≡ plain_words (run_end ws s ls qs)
-closed_words ws s ls qs v u x v-is u-is x-is =
-    ap (λ (y : World). y.words) (x-is ∙ ap closed (u-is ∙ ap (λ (y : World). after_requests y ls qs) v-is))
+pub closed_words : (ws : List ℕ) (s : Setting) (qs : List Request) (v u x : World) → v ≡ opened (shut ws) s → u ≡ after_requests v qs → x ≡ closed u → x.words ≡ plain_words (run_end ws s qs)
+closed_words ws s qs v u x v-is u-is x-is =
+    ap (λ (y : World). y.words) (x-is ∙ ap closed (u-is ∙ ap (λ (y : World). after_requests y qs) v-is))
 
 -- an opened bank has at most 256 words, and a run leaves as many
 few_words : (ws : List ℕ) (s : Setting) → refusal_of (shut ws) (opens s) ≡ None → length ws ≤ 256
@@ -70,15 +68,11 @@ few_words ws s e = by (setting_fits (length ws) s) refl (open_tests (shut ws) s 
     by true f none = grind (arith, nat_tests)
     by false f none = absurd (grind arith)
 
-pub left_length : (ws left : List ℕ) (s : Setting) (ls : List (Option Entries)) (qs : List Request) → refusal_of (shut ws) (opens s) ≡ None → left ≡ plain_words (run_end ws s ls qs) → min (length ws) 256 ≡ length left
-left_length ws left s ls qs e is =
+pub left_length : (ws left : List ℕ) (s : Setting) (qs : List Request) → refusal_of (shut ws) (opens s) ≡ None → left ≡ plain_words (run_end ws s qs) → min (length ws) 256 ≡ length left
+left_length ws left s qs e is =
     let few = few_words ws s e in
-    let same : length left ≡ length ws = ap length is ∙ length_listed _ _ ∙ end_length (opened (shut ws) s) ls qs in
+    let same : length left ≡ length ws = ap length is ∙ length_listed _ _ ∙ end_length (opened (shut ws) s) qs in
     omega arith
-
--- what a slice lent from a vector leaves there
-pub put_back : {X : Type 0} (n : ℕ) (xs ys : List X) → n ≡ length xs → take n (xs ++ ys) ≡ xs
-put_back n xs ys e = ap (λ (k : ℕ). take k (xs ++ ys)) e ∙ take-append-le (length xs) xs ys (omega arith) ∙ take_all (length xs) xs (omega arith)
 
 -- a machine that gave a receipt is open
 pub open_runs : {B : Type 0} (words : B → List ℕ) (m n : Machine B) (s : Setting) (r : Result Receipt Refusal) (t : Receipt) → r ≡ receipt_for s (perform (view words m) (opens s)).answer → view words n ≡ (perform (view words m) (opens s)).world → r ≡ Ok t

@@ -1,13 +1,15 @@
-use Rattle.std.proofs.Common.{◌≡◌, ℕ, cond, leb, [], ◌∷◌, length, Some, None, Option, arith}
+use Rattle.std.proofs.Common.{◌≡◌, ℕ, cond, leb, length, Some, None, Option, arith}
 use Rattle.std.proofs.lemmas.Bool.Decides.{nat_tests}
-use Rattle.entries.specs.declared.list.Entries.{Entries}
 use Rattle.descriptor.specs.Descriptors.{last_number}
 use Rattle.cores.specs.declared.table.Refusal.{Refusal}
 use Rattle.cores.specs.declared.table.Refusal.TheVariants.{UsedUp, NoAnswer}
 use Rattle.cores.specs.Cores.{is_finished}
 use Rattle.model.specs.World.{World, core_at}
-use Rattle.model.specs.Calls.{starts, reads, steps, halts, collects, words_of}
+use Rattle.model.specs.Calls.{steps, halts, collects, words_of}
 use Rattle.model.specs.Refusals.{first_match, some_of, refusal_of}
+use Rattle.machine.specs.declared.machine.starts.Task.{Task}
+use Rattle.machine.specs.declared.machine.starts.Task.TheVariants as task
+use Rattle.machine.specs.Starts.{call_for}
 use Rattle.machine.specs.Admission.{admission, else_refused, step_refusal, named_of, start_refusal}
 
 -- The table of refusals for a step, test by test.
@@ -27,10 +29,7 @@ collect_tests w k = grind (arith, nat_tests)
 abbrev pub number_refusal : World → ℕ → Option Refusal
 number_refusal w k = cond (leb last_number (core_at w k).operation.last) (Some UsedUp) None
 
-pub start_tests : (w : World) (k : ℕ) (l : Entries) → else_refused (start_refusal w.table k (named_of (length w.words) w.table.protected (words_of (starts k l)))) (number_refusal w k) ≡ refusal_of w (starts k l)
+pub start_tests : (w : World) (k : ℕ) (t : Task) → else_refused (start_refusal w.table k (named_of (length w.words) w.table.protected (words_of (call_for 0 t)))) (number_refusal w k) ≡ refusal_of w (call_for k t)
 unfolding first_match
-start_tests w k l = grind (arith, nat_tests)
-
-pub read_tests : (w : World) (k i : ℕ) → else_refused (start_refusal w.table k (named_of (length w.words) w.table.protected (i ∷ []))) (number_refusal w k) ≡ refusal_of w (reads k i)
-unfolding first_match
-read_tests w k i = grind (arith, nat_tests)
+start_tests w k (task.List l) = grind (arith, nat_tests)
+start_tests w k (task.Read i) = grind (arith, nat_tests)

@@ -1,4 +1,4 @@
-use Rattle.std.proofs.Common.{◌≡◌, ℕ, ◌+◌, Bool, true, false, cond, ltb, List, [], ◌∷◌, length, Some, None, Ok, Err, Option, Result, sym, refl, ap, ◌∙◌, arith}
+use Rattle.std.proofs.Common.{◌≡◌, ℕ, ◌+◌, Bool, true, false, cond, ltb, List, length, Some, None, Ok, Err, Option, Result, sym, refl, ap, ◌∙◌, arith}
 use Rattle.std.proofs.lemmas.Bool.Decides.{nat_tests}
 use Rattle.entries.specs.declared.list.Entries.{Entries}
 use Rattle.descriptor.specs.declared.UsedUp.{UsedUp}
@@ -15,9 +15,11 @@ use Rattle.model.specs.Perform.{perform, granted, start_number}
 use Rattle.model.specs.Refusals.{refusal_of}
 use Rattle.model.proofs.Granting.{perform_granted, perform_refused}
 use Rattle.machine.specs.declared.machine.starts.Named.{Named}
-use Rattle.machine.specs.Admission.{named_of, named_with, start_refusal, else_refused}
-use Rattle.machine.proofs.Named.{one_named}
-use Rattle.machine.proofs.Refused.{start_tests, read_tests, number_refusal}
+use Rattle.machine.specs.declared.machine.starts.Task.{Task}
+use Rattle.machine.specs.declared.machine.starts.Task.TheVariants as task
+use Rattle.machine.specs.Starts.{call_for, begun}
+use Rattle.machine.specs.Admission.{named_of, start_refusal, else_refused}
+use Rattle.machine.proofs.Refused.{start_tests, number_refusal}
 use Rattle.machine.proofs.Collected.{put_back}
 
 -- What a start comes to.
@@ -39,18 +41,12 @@ by_number w k c mine l tested is = by (ltb (core_at w k).operation.last last_num
     by true e = perform_granted w c (tested ∙ grind (arith, nat_tests)) ∙ is
     by false e = perform_refused w c refusal.UsedUp (tested ∙ grind (arith, nat_tests)) ∙ ap (λ (v : World). record { answer = Err refusal.UsedUp; world = v }) (sym (put_back w k))
 
-pub start_comes : (w : World) (k : ℕ) (l : Entries) → start_refusal w.table k (named_of (length w.words) w.table.protected (words_of (starts k l))) ≡ None
-    → StartComes w k (starts k l) (own.List (record { core = k; number = (core_at w k).operation.last + 1 })) (Some l)
-start_comes w k l e = by_number w k (starts k l) (own.List (record { core = k; number = start_number w k })) (Some l) (sym (start_tests w k l) ∙ ap (λ (q : Option Refusal). else_refused q (number_refusal w k)) e) refl
-
-pub read_comes : (w : World) (k i : ℕ) → start_refusal w.table k (named_of (length w.words) w.table.protected (i ∷ [])) ≡ None
-    → StartComes w k (reads k i) (own.Read i) None
-read_comes w k i e = by_number w k (reads k i) (own.Read i) None (sym (read_tests w k i) ∙ ap (λ (q : Option Refusal). else_refused q (number_refusal w k)) e) refl
+pub start_comes : (w : World) (k : ℕ) (t : Task) → start_refusal w.table k (named_of (length w.words) w.table.protected (words_of (call_for 0 t))) ≡ None
+    → perform w (call_for k t) ≡ record { answer = or_used_up (creation (core_at w k).operation); world = begun w k t }
+start_comes w k (task.List l) e = by_number w k (starts k l.now) (own.List (record { core = k; number = start_number w k })) (Some l.now) (sym (start_tests w k (task.List l)) ∙ ap (λ (q : Option Refusal). else_refused q (number_refusal w k)) e) refl
+start_comes w k (task.Read i) e = by_number w k (reads k i) (own.Read i) None (sym (start_tests w k (task.Read i)) ∙ ap (λ (q : Option Refusal). else_refused q (number_refusal w k)) e) refl
 
 -- the tests, put together from what the code had at hand
 pub tested : (t : Table) (k size s p : ℕ) (ws : List ℕ) (n : Named) (r q : Option Refusal) → size ≡ s → n ≡ named_of size p ws → r ≡ start_refusal t k n → r ≡ q → start_refusal t k (named_of s p ws) ≡ q
 tested t k size s p ws n r q size_is n-is r-is e =
     ap (λ (x : ℕ). start_refusal t k (named_of x p ws)) (sym size_is) ∙ ap (start_refusal t k) (sym n-is) ∙ sym r-is ∙ e
-
-pub one_word : (size p i : ℕ) (z n : Named) → z ≡ record { missing = false; protected = false } → n ≡ named_with z size p i → n ≡ named_of size p (i ∷ [])
-one_word size p i z n z-is n-is = n-is ∙ ap (λ (x : Named). named_with x size p i) z-is ∙ one_named size p i

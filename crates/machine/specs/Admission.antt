@@ -21,12 +21,9 @@ else_refused None later = later
 abbrev pub step_refusal : Table → ℕ → Option Refusal
 step_refusal t k = else_refused (admission t k) (step_refused (core_at (tabled t) k))
 
--- What the words of a start are, and with one word more, where there are size words, the first of them protected.
+-- What the words of a start are, where there are size words, the first of them protected.
 abbrev pub named_of : ℕ → ℕ → List ℕ → Named
 named_of size protected is = record { missing = some_of (λ i. nat_le size i) is; protected = some_of (λ i. nat_lt i protected) is }
-
-abbrev pub named_with : Named → ℕ → ℕ → ℕ → Named
-named_with n size protected i = record { missing = n.missing || nat_le size i; protected = n.protected || nat_lt i protected }
 
 -- Why a start of these words is refused before a number is taken.
 abbrev pub start_refusal : Table → ℕ → Named → Option Refusal

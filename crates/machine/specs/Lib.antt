@@ -1,6 +1,7 @@
 pub mod Next
 pub mod Sight
 pub mod Admission
+pub mod Starts
 pub mod Keeps
 pub mod View
 pub mod Looks

@@ -1,8 +1,9 @@
-use Rattle.std.specs.Prelude.{ℕ, false}
+use Rattle.std.specs.Prelude.{ℕ, false, Ok, Err, Result}
 use Rattle.word.specs.declared.Mark.{Mark}
 use Rattle.word.specs.declared.Word.{Word}
 use Rattle.entries.specs.declared.Entry.{Entry}
-use Rattle.descriptor.specs.declared.contents.State.{State}
+use Rattle.descriptor.specs.declared.UsedUp.{UsedUp}
+use Rattle.descriptor.specs.Contents.{State}
 use Rattle.descriptor.specs.declared.contents.Outcome.{Outcome}
 use Rattle.descriptor.specs.declared.contents.Placing.{Placing}
 use Rattle.cores.specs.declared.place.Place.{Place}
@@ -14,7 +15,7 @@ use Rattle.cores.specs.declared.place.Settling.TheVariants as settling
 use Rattle.cores.specs.declared.place.Then.{Then}
 use Rattle.cores.specs.declared.place.Own.{Own}
 use Rattle.cores.specs.declared.place.Work.{Work}
-use Rattle.model.specs.Rules.{after_look, after_begin, after_try, after_decide, outcome_after, after_clear_load, after_clear_swap, resume, is_undecided}
+use Rattle.model.specs.Rules.{by_sight, through_mark, after_look, after_begin, after_try, after_decide, outcome_after, after_clear_load, after_clear_swap, resume, is_undecided}
 use Rattle.cores.specs.Cores.{home}
 use Rattle.machine.specs.declared.seen.Seen.{Seen}
 use Rattle.machine.specs.declared.seen.Seen.TheVariants as seen
@@ -24,64 +25,62 @@ use Rattle.machine.specs.declared.seen.Seen.TheVariants as seen
 -- a rule for a word, for an operation's state and count, for one entry, for a state, for a placing's contents, for a new mark; and where
 -- the core goes when the mark is overtaken
 abbrev pub on_word : Place → (Word → Place) → Seen → Place
-on_word stay go (seen.Word x) = go x
+on_word stay go (seen.Word o) = by_sight o stay go
 on_word stay go seen.Nothing = stay
-on_word stay go seen.Overtaken = stay
-on_word stay go (seen.Operation s n) = stay
-on_word stay go (seen.Entry e) = stay
-on_word stay go (seen.State s) = stay
-on_word stay go (seen.Placing p) = stay
-on_word stay go (seen.Made m) = stay
+on_word stay go (seen.Operation r) = stay
+on_word stay go (seen.Entry r) = stay
+on_word stay go (seen.State r) = stay
+on_word stay go (seen.Placing r) = stay
+on_word stay go (seen.Made r) = stay
 
 abbrev pub on_operation : Place → Place → (State → ℕ → Place) → Seen → Place
-on_operation stay over go (seen.Operation s n) = go s n
-on_operation stay over go seen.Overtaken = over
+on_operation stay over go (seen.Operation r) = through_mark r over (λ p. go p.0 p.1)
 on_operation stay over go seen.Nothing = stay
 on_operation stay over go (seen.Word x) = stay
-on_operation stay over go (seen.Entry e) = stay
-on_operation stay over go (seen.State s) = stay
-on_operation stay over go (seen.Placing p) = stay
-on_operation stay over go (seen.Made m) = stay
+on_operation stay over go (seen.Entry r) = stay
+on_operation stay over go (seen.State r) = stay
+on_operation stay over go (seen.Placing r) = stay
+on_operation stay over go (seen.Made r) = stay
 
 abbrev pub on_entry : Place → Place → (Entry → Place) → Seen → Place
-on_entry stay over go (seen.Entry e) = go e
-on_entry stay over go seen.Overtaken = over
+on_entry stay over go (seen.Entry r) = through_mark r over (λ o. by_sight o stay go)
 on_entry stay over go seen.Nothing = stay
 on_entry stay over go (seen.Word x) = stay
-on_entry stay over go (seen.Operation s n) = stay
-on_entry stay over go (seen.State s) = stay
-on_entry stay over go (seen.Placing p) = stay
-on_entry stay over go (seen.Made m) = stay
+on_entry stay over go (seen.Operation r) = stay
+on_entry stay over go (seen.State r) = stay
+on_entry stay over go (seen.Placing r) = stay
+on_entry stay over go (seen.Made r) = stay
 
 abbrev pub on_state : Place → Place → (State → Place) → Seen → Place
-on_state stay over go (seen.State s) = go s
-on_state stay over go seen.Overtaken = over
+on_state stay over go (seen.State r) = through_mark r over go
 on_state stay over go seen.Nothing = stay
 on_state stay over go (seen.Word x) = stay
-on_state stay over go (seen.Operation s n) = stay
-on_state stay over go (seen.Entry e) = stay
-on_state stay over go (seen.Placing p) = stay
-on_state stay over go (seen.Made m) = stay
+on_state stay over go (seen.Operation r) = stay
+on_state stay over go (seen.Entry r) = stay
+on_state stay over go (seen.Placing r) = stay
+on_state stay over go (seen.Made r) = stay
 
 abbrev pub on_placing : Place → Place → (Placing → Place) → Seen → Place
-on_placing stay over go (seen.Placing p) = go p
-on_placing stay over go seen.Overtaken = over
+on_placing stay over go (seen.Placing r) = through_mark r over go
 on_placing stay over go seen.Nothing = stay
 on_placing stay over go (seen.Word x) = stay
-on_placing stay over go (seen.Operation s n) = stay
-on_placing stay over go (seen.Entry e) = stay
-on_placing stay over go (seen.State s) = stay
-on_placing stay over go (seen.Made m) = stay
+on_placing stay over go (seen.Operation r) = stay
+on_placing stay over go (seen.Entry r) = stay
+on_placing stay over go (seen.State r) = stay
+on_placing stay over go (seen.Made r) = stay
+
+abbrev pub made_or : Place → (Mark → Place) → Result Mark UsedUp → Place
+made_or stay go (Ok m) = go m
+made_or stay go (Err u) = stay
 
 abbrev pub on_made : Place → (Mark → Place) → Seen → Place
-on_made stay go (seen.Made m) = go m
+on_made stay go (seen.Made r) = made_or stay go r
 on_made stay go seen.Nothing = stay
-on_made stay go seen.Overtaken = stay
 on_made stay go (seen.Word x) = stay
-on_made stay go (seen.Operation s n) = stay
-on_made stay go (seen.Entry e) = stay
-on_made stay go (seen.State s) = stay
-on_made stay go (seen.Placing p) = stay
+on_made stay go (seen.Operation r) = stay
+on_made stay go (seen.Entry r) = stay
+on_made stay go (seen.State r) = stay
+on_made stay go (seen.Placing r) = stay
 
 -- Clear and Settle are three steps each.
 abbrev pub clear_next : Work → Outcome → Clearing → Own → Seen → Place

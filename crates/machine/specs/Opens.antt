@@ -1,10 +1,15 @@
-use Rattle.std.specs.Prelude.{ℕ, cond, length, Some, None, Ok, Err, Option, Result}
+use Rattle.std.specs.Prelude.{ℕ, Bool, cond, ◌&&◌, List, length, Some, None, Ok, Err, Option, Result, nat_lt, slice_index}
 use Rattle.cores.specs.declared.table.Refusal.{Refusal}
 use Rattle.cores.specs.declared.table.Refusal.TheVariants.{Open, Setting as BadSetting, Tagged}
 use Rattle.cores.specs.declared.table.Setting.{Setting}
 use Rattle.model.specs.World.{World}
-use Rattle.model.specs.Refusals.{first_tagged, setting_fits}
+use Rattle.word.specs.Word.{reading_of}
+use Rattle.model.specs.Refusals.{is_plain, first_tagged, setting_fits}
 use Rattle.machine.specs.declared.machine.Receipt.{Receipt}
+
+-- whether word i is there and plain
+abbrev pub plain_at : List ℕ → ℕ → Bool
+plain_at ws i = nat_lt i (length ws) && is_plain (reading_of (slice_index ws i))
 
 -- Why an opening is refused, test by test.
 abbrev pub tag_refusal : Option ℕ → Option Refusal

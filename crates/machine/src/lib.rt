@@ -2,6 +2,7 @@
 
 #![tactic(auto)]
 
+mod index;
 mod machine;
 mod rules;
 pub mod run;

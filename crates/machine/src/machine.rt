@@ -1,13 +1,14 @@
 //! The machine over any bank.
-ghost use Rattle.std.specs.Prelude.{◌≡◌, ◌<◌, false, is_ok, if◌then◌else◌, None};
+ghost use Rattle.std.specs.Prelude.{◌≡◌, false, is_ok, if◌then◌else◌, IfOk};
 ghost use Rattle.descriptor.specs.Descriptors.{creation};
+ghost use Rattle.cores.specs.Refusals.{refusal_in};
+ghost use Rattle.cores.specs.Cores.{is_finished, begin_read, entry_read, state_read};
 ghost use Rattle.model.specs.World.{core_at, word_at, operation_at, placing_at};
 ghost use Rattle.model.specs.Step.{cleared_to, settled_to, step_change, change_world, arrive, swaps, decides, makes};
-ghost use Rattle.machine.specs.Sight.{tabled, word_sight, operation_sight, entry_sight, state_sight, placing_sight, made_sight, sight};
-ghost use Rattle.cores.specs.Cores.{is_finished};
 ghost use Rattle.model.specs.Calls.{steps};
 ghost use Rattle.model.specs.Perform.{perform};
-ghost use Rattle.machine.specs.Admission.{admission as admission_of, step_refusal};
+ghost use Rattle.machine.specs.Sight.{tabled, mark_made, sight};
+ghost use Rattle.machine.specs.Admission.{admission, step_refusal};
 ghost use Rattle.machine.specs.View.{view};
 
 mod calls;
@@ -16,16 +17,18 @@ mod looks;
 mod opening;
 mod starts;
 
+use super::index::CoreIndex;
 use super::rules::next;
 use super::seen::Seen;
 use bank::Bank;
-use cores::place::{Clearing, Own, Place, Settling, Work};
-use cores::table::{Refusal, Table};
-use descriptor::{Outcome, Placing};
+use cores::place::{Clearing, Place, Settling, Work};
+use cores::table::{Core, Refusal, Table};
+use descriptor::{Outcome, Overtaken, Placing, State, UsedUp};
 use entries::Entry;
 use word::{Mark, Word};
 
-/// Up to 8 cores over a bank of words.
+/// Up to 8 cores over a bank of words. What a call leaves as it was is a clause of each call: a fact on two states fits in no type. And
+/// the clauses speak of the bank itself, which a `Model` of the machine as its words and table would leave out.
 #[derive(Drop)]
 pub struct Machine<B: Bank> {
     bank: B,
@@ -39,7 +42,18 @@ pub struct Receipt {
     first: u64,
 }
 
-/// What Clear puts back into a word.
+/// What Make creates for the entry.
+fn placing_for(work: Work, entry: Entry) -> Placing
+    ensures { result ≡ record { operation = work.operation; word = entry.word; expected = entry.expected } }
+{
+    Placing {
+        operation: work.operation,
+        word: entry.word,
+        expected: entry.expected,
+    }
+}
+
+/// What Clear puts back into a word. A descriptor says the like of a state; a clear has an outcome, and no state.
 fn cleared(outcome: Outcome, entry: Entry) -> Word
     ensures { result ≡ cleared_to outcome entry }
 {
@@ -60,223 +74,153 @@ fn settled(undecided: bool, placing: Placing) -> Word
     }
 }
 
+// What is read through a mark. `Table` is a type of `cores`, so as its methods these would be public there.
+
 /// The state and count of the operation under the mark.
-fn operation(table: &Table, mark: Mark) -> Seen
-    ensures { result ≡ operation_sight (operation_at (tabled table.now) mark) }
+fn operation(table: &Table, mark: Mark) -> Result<(State, u8), Overtaken>
+    ensures { result ≡ begin_read (operation_at (tabled table.now) mark) }
 {
-    if mark.core >= 8 {
-        return Seen::Overtaken;
-    }
-    match table.cores[mark.core as usize].operation(mark.number) {
-        Ok((state, count)) => Seen::Operation(state, count),
-        Err(_) => Seen::Overtaken,
-    }
+    CoreIndex::of(mark)?.core(table).operation(mark.number)
 }
 
-/// The entry that the work is on.
-fn entry(table: &Table, work: Work) -> Seen
-    ensures { result ≡ entry_sight work.index (operation_at (tabled table.now) work.operation) }
+/// The entry that the work is on, if the operation has that many.
+fn entry(table: &Table, work: Work) -> Result<Option<Entry>, Overtaken>
+    ensures { result ≡ entry_read work.index (operation_at (tabled table.now) work.operation) }
 {
-    let Work {
-        operation,
-        index,
-        ..
-    } = work;
-    if operation.core >= 8 {
-        return Seen::Overtaken;
-    }
-    match table.cores[operation.core as usize].entry(operation.number, index) {
-        Ok(Some(entry)) => Seen::Entry(entry),
-        Ok(None) => Seen::Nothing,
-        Err(_) => Seen::Overtaken,
-    }
+    let mark = work.operation;
+    CoreIndex::of(mark)?
+        .core(table)
+        .entry(mark.number, work.index)
 }
 
 /// The state of the operation under the mark.
-fn state(table: &Table, mark: Mark) -> Seen
-    ensures { result ≡ state_sight (operation_at (tabled table.now) mark) }
+fn state(table: &Table, mark: Mark) -> Result<State, Overtaken>
+    ensures { result ≡ state_read (operation_at (tabled table.now) mark) }
 {
-    if mark.core >= 8 {
-        return Seen::Overtaken;
-    }
-    match table.cores[mark.core as usize].state(mark.number) {
-        Ok(state) => Seen::State(state),
-        Err(_) => Seen::Overtaken,
-    }
+    CoreIndex::of(mark)?.core(table).state(mark.number)
 }
 
 /// The contents of the placing under the mark.
-fn placing(table: &Table, mark: Mark) -> Seen
-    ensures { result ≡ placing_sight (placing_at (tabled table.now) mark) }
+fn placing(table: &Table, mark: Mark) -> Result<Placing, Overtaken>
+    ensures { result ≡ placing_at (tabled table.now) mark }
 {
-    if mark.core >= 8 {
-        return Seen::Overtaken;
-    }
-    match table.cores[mark.core as usize].placing(mark.number) {
-        Ok(contents) => Seen::Placing(contents),
-        Err(_) => Seen::Overtaken,
-    }
+    CoreIndex::of(mark)?.core(table).placing(mark.number)
 }
 
-/// Why a call that names the core is refused before anything else is looked at.
-fn admission(table: &Table, core: u8) -> Option<Refusal>
-    ensures is { result ≡ admission_of table.now core }
-    ensures there { result ≡ None → core < 8 }
+/// The core of this number, unless a call that names it is refused before anything else is looked at.
+fn admitted(table: &Table, core: u8) -> Result<CoreIndex, Refusal>
+    ensures refusal { refusal_in result ≡ admission table.now core }
+    ensures core { IfOk result (λ k. k.number ≡ core) }
 {
     if !table.running {
-        return Some(Refusal::Closed);
+        return Err(Refusal::Closed);
     }
-    if core >= table.count || core >= 8 {
-        return Some(Refusal::NoCore);
+    if core >= table.count {
+        return Err(Refusal::NoCore);
     }
-    if table.cores[core as usize].halted {
-        Some(Refusal::Halted)
+    let index = CoreIndex::new(core).ok_or(Refusal::NoCore)?;
+    if index.core(table).halted {
+        Err(Refusal::Halted)
     } else {
-        None
+        Ok(index)
     }
 }
 
-/// Why a step of the core is refused.
-fn step_refusal(table: &Table, core: u8) -> Option<Refusal>
-    ensures is { result ≡ step_refusal table.now core }
-    ensures there { result ≡ None → core < 8 }
+/// The core of this number, unless a step of it is refused.
+fn steppable(table: &Table, core: u8) -> Result<CoreIndex, Refusal>
+    ensures refusal { refusal_in result ≡ step_refusal table.now core }
+    ensures core { IfOk result (λ k. k.number ≡ core) }
 {
-    match admission(table, core) {
-        Some(refusal) => Some(refusal),
-        None => table.cores[core as usize].step_refusal(),
-    }
-}
-
-fn place_of(table: &Table, core: u8) -> Place
-    requires { core < 8 }
-    ensures { result ≡ (core_at (tabled table.now) core).place }
-{
-    table.cores[core as usize].place
-}
-
-fn own_of(table: &Table, core: u8) -> Own
-    requires { core < 8 }
-    ensures { result ≡ (core_at (tabled table.now) core).own }
-{
-    table.cores[core as usize].own
-}
-
-/// What a step to the place answers: 1 finished, 0 working.
-fn finished(place: Place) -> u64
-    ensures { result ≡ (if is_finished place then 1 else 0) }
-{
-    match place {
-        Place::Finished(_) => 1,
-        _ => 0,
-    }
+    let index = admitted(table, core)?;
+    index.core(table).may_step()?;
+    Ok(index)
 }
 
 impl<B: Bank> Machine<B> {
-    /// The word at `at`.
-    fn load(&self, at: u64) -> Seen
-        ensures { result ≡ word_sight (word_at (view B.Bank.words self.now) at) }
+    /// The word at `at`, if the bank has it.
+    fn load(&self, at: u64) -> Option<Word>
+        ensures { result ≡ word_at (view B.Bank.words self.now) at }
     {
-        match self.bank.load(at) {
-            Ok(raw) => Seen::Word(Word::read(raw)),
-            Err(_) => Seen::Nothing,
-        }
+        self.bank.load(at).ok().map(Word::read)
     }
 
-    /// The word at `at`, which becomes `new` where it says `old`.
-    fn swap(&mut self, at: u64, old: Word, new: Word) -> Seen
-        ensures answer { result ≡ word_sight (word_at (view B.Bank.words self.old) at) }
+    /// The word at `at`, if the bank has it; it becomes `new` where it says `old`.
+    fn swap(&mut self, at: u64, old: Word, new: Word) -> Option<Word>
+        ensures answer { result ≡ word_at (view B.Bank.words self.old) at }
         ensures after { view B.Bank.words self.new ≡ change_world (view B.Bank.words self.old) 0 (swaps at old new) }
     {
-        match self.bank.swap(at, old.raw(), new.raw()) {
-            Ok(raw) => Seen::Word(Word::read(raw)),
-            Err(_) => Seen::Nothing,
-        }
+        self.bank
+            .swap(at, old.raw(), new.raw())
+            .ok()
+            .map(Word::read)
     }
 
     /// Decides the operation under the mark, unless it is overtaken or decided; the state that it had.
-    fn decide(&mut self, mark: Mark, outcome: Outcome) -> Seen
-        ensures answer { result ≡ state_sight (operation_at (view B.Bank.words self.old) mark) }
+    fn decide(&mut self, mark: Mark, outcome: Outcome) -> Result<State, Overtaken>
+        ensures answer { result ≡ state_read (operation_at (view B.Bank.words self.old) mark) }
         ensures after { view B.Bank.words self.new ≡ change_world (view B.Bank.words self.old) 0 (decides mark outcome) }
     {
-        if mark.core >= 8 {
-            return Seen::Overtaken;
-        }
-        match self.table.cores[mark.core as usize].decide(mark.number, outcome) {
-            Ok(state) => Seen::State(state),
-            Err(_) => Seen::Overtaken,
-        }
+        let core = CoreIndex::of(mark)?;
+        self.table.cores[core.place()].decide(mark.number, outcome)
     }
 
-    /// Creates core `core`'s placing descriptor anew.
-    fn make(&mut self, core: u8, contents: Placing) -> Seen
-        requires { core < 8 }
-        ensures answer { result ≡ made_sight core (creation (core_at (view B.Bank.words self.old) core).placing) }
-        ensures after { view B.Bank.words self.new ≡ change_world (view B.Bank.words self.old) core (makes contents) }
+    /// Creates the core's placing descriptor anew, and answers its mark.
+    fn make(&mut self, core: CoreIndex, contents: Placing) -> Result<Mark, UsedUp>
+        ensures answer { result ≡ mark_made core.number (creation (core_at (view B.Bank.words self.old) core.number).placing) }
+        ensures after { view B.Bank.words self.new ≡ change_world (view B.Bank.words self.old) core.number (makes contents) }
     {
-        match self.table.cores[core as usize].make(contents) {
-            Ok(number) => Seen::Made(Mark { core, number }),
-            Err(_) => Seen::Nothing,
-        }
+        let number = self.table.cores[core.place()].make(contents)?;
+        Ok(Mark {
+            core: core.number,
+            number,
+        })
     }
 
     /// The one access of a step from the place.
-    fn access(&mut self, core: u8, place: Place) -> Seen
-        requires { core < 8 }
-        ensures answer { result ≡ sight (view B.Bank.words self.old) core place }
-        ensures after { view B.Bank.words self.new ≡ change_world (view B.Bank.words self.old) core (step_change place) }
+    fn access(&mut self, core: CoreIndex, place: Place) -> Seen
+        ensures answer { result ≡ sight (view B.Bank.words self.old) core.number place }
+        ensures after { view B.Bank.words self.new ≡ change_world (view B.Bank.words self.old) core.number (step_change place) }
     {
+        // The places are a closed set, each matched where the definition matches it.
         match place {
             Place::Idle | Place::Finished(_) => Seen::Nothing,
-            Place::Look(at) => self.load(at),
-            Place::Begin(mark) => operation(&self.table, mark),
-            Place::Fetch(work) => entry(&self.table, work),
-            Place::Make(work, entry) => {
-                let Entry { word, expected, .. } = entry;
-                let operation = work.operation;
-                self.make(
-                    core,
-                    Placing {
-                        operation,
-                        word,
-                        expected,
-                    },
-                )
+            Place::Look(at) => Seen::Word(self.load(at)),
+            Place::Begin(mark) => Seen::Operation(operation(&self.table, mark)),
+            Place::Fetch(work) | Place::Clear(work, _, Clearing::Read) => {
+                Seen::Entry(entry(&self.table, work))
             }
-            Place::Try(_, entry, mark) => self.swap(
+            Place::Make(work, entry) => Seen::Made(self.make(core, placing_for(work, entry))),
+            Place::Try(_, entry, mark) => Seen::Word(self.swap(
                 entry.word,
                 Word::Plain(entry.expected),
                 Word::Placing(mark),
-            ),
-            Place::Decide(work, outcome) => self.decide(work.operation, outcome),
-            Place::Clear(work, _, Clearing::Read) => entry(&self.table, work),
-            Place::Clear(_, _, Clearing::Load(entry)) => self.load(entry.word),
-            Place::Clear(work, outcome, Clearing::Swap(entry)) => {
-                self.swap(
-                    entry.word,
-                    Word::Operation(work.operation),
-                    cleared(outcome, entry),
-                )
+            )),
+            Place::Decide(work, outcome) => Seen::State(self.decide(work.operation, outcome)),
+            Place::Clear(_, _, Clearing::Load(entry)) => Seen::Word(self.load(entry.word)),
+            Place::Clear(work, outcome, Clearing::Swap(entry)) => Seen::Word(self.swap(
+                entry.word,
+                Word::Operation(work.operation),
+                cleared(outcome, entry),
+            )),
+            Place::Settle(mark, Settling::Read, _) => Seen::Placing(placing(&self.table, mark)),
+            Place::Settle(_, Settling::State(placing), _) => {
+                Seen::State(state(&self.table, placing.operation))
             }
-            Place::Settle(mark, Settling::Read, _) => placing(&self.table, mark),
-            Place::Settle(_, Settling::State(placing), _) => state(&self.table, placing.operation),
-            Place::Settle(mark, Settling::Swap(placing, undecided), _) => {
-                self.swap(
-                    placing.word,
-                    Word::Placing(mark),
-                    settled(undecided, placing),
-                )
-            }
+            Place::Settle(mark, Settling::Swap(placing, undecided), _) => Seen::Word(self.swap(
+                placing.word,
+                Word::Placing(mark),
+                settled(undecided, placing),
+            )),
         }
     }
 
     /// The core arrives at the place: 1 where it is finished then, and otherwise 0.
-    fn arrive(&mut self, core: u8, place: Place) -> u64
-        requires { core < 8 }
-        ensures answer { result ≡ (if is_finished (core_at (arrive (view B.Bank.words self.old) core place) core).place then 1 else 0) }
-        ensures after { view B.Bank.words self.new ≡ arrive (view B.Bank.words self.old) core place }
+    fn arrive(&mut self, core: CoreIndex, place: Place) -> u64
+        ensures answer { result ≡ (if is_finished (core_at (arrive (view B.Bank.words self.old) core.number place) core.number).place then 1 else 0) }
+        ensures after { view B.Bank.words self.new ≡ arrive (view B.Bank.words self.old) core.number place }
     {
-        self.table.cores[core as usize].arrive(place);
-        finished(place)
+        self.table.cores[core.place()].arrive(place);
+        u64::from(matches!(place, Place::Finished(_)))
     }
 
     fn take_step(&mut self, core: u8) -> Result<u64, Refusal>
@@ -284,11 +228,8 @@ impl<B: Bank> Machine<B> {
         ensures after { view B.Bank.words self.new ≡ (perform (view B.Bank.words self.old) (steps core)).world }
         ensures refused { is_ok result ≡ false → self.new ≡ self.old }
     {
-        if let Some(refusal) = step_refusal(&self.table, core) {
-            return Err(refusal);
-        }
-        let place = place_of(&self.table, core);
-        let own = own_of(&self.table, core);
+        let core = steppable(&self.table, core)?;
+        let Core { place, own, .. } = *core.core(&self.table);
         let seen = self.access(core, place);
         Ok(self.arrive(core, next(place, own, seen)))
     }

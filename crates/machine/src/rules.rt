@@ -1,39 +1,26 @@
-//! Where a core goes from its place, by what the access there saw.
-ghost use Rattle.std.specs.Prelude.{◌≡◌};
-ghost use Rattle.model.specs.Rules.{same_mark, next_entry, after_look, after_begin, after_try, after_decide, outcome_after, after_clear_load, answer_of, after_last, after_clear_swap, resume, is_undecided};
-ghost use Rattle.cores.specs.Cores.{home};
+//! Where a core goes from its place, by what the access there saw. The rules are a closed set: each function takes what its definition
+//! takes, and matches where that matches.
+ghost use Rattle.std.specs.Prelude.{◌≡◌, cond, Some, None};
+ghost use Rattle.model.specs.Rules.{has_more, entry_after, next_entry, after_look, after_begin, after_try, after_decide, after_clear_load, answer_of, after_last, after_clear_swap, resume};
 ghost use Rattle.machine.specs.Next.{clear_next, settle_next, next_place};
 
 use super::seen::Seen;
 use cores::place::{Clearing, Own, Place, Settling, Then, Work};
-use descriptor::{Outcome, State};
+use descriptor::{Outcome, Overtaken, State};
 use entries::Entry;
 use word::{Mark, Word};
 
-fn same(a: Mark, b: Mark) -> bool
-    ensures { result ≡ same_mark a b }
+/// The work on the entry after this one, if there is one.
+fn entry_after(work: Work) -> Option<Work>
+    ensures { result ≡ cond (has_more work) (Some (entry_after work)) None }
 {
-    a.core == b.core && a.number == b.number
-}
-
-fn undecided(state: State) -> bool
-    ensures { result ≡ is_undecided state }
-{
-    match state {
-        State::Undecided => true,
-        State::Succeeded => false,
-        State::Failed(_) => false,
-    }
-}
-
-/// Home: the first place of the core's own operation.
-fn go_home(own: Own) -> Place
-    ensures { result ≡ home own }
-{
-    match own {
-        Own::Nothing => Place::Idle,
-        Own::Read(at) => Place::Look(at),
-        Own::List(mark) => Place::Begin(mark),
+    if work.index < work.count && work.count - work.index > 1 {
+        Some(Work {
+            index: work.index + 1,
+            ..work
+        })
+    } else {
+        None
     }
 }
 
@@ -41,19 +28,9 @@ fn go_home(own: Own) -> Place
 fn advance(work: Work) -> Place
     ensures { result ≡ next_entry work }
 {
-    let Work {
-        operation,
-        index,
-        count,
-    } = work;
-    if index < count && count - index > 1 {
-        Place::Fetch(Work {
-            operation,
-            index: index + 1,
-            count,
-        })
-    } else {
-        Place::Decide(work, Outcome::Succeeded)
+    match entry_after(work) {
+        Some(next) => Place::Fetch(next),
+        None => Place::Decide(work, Outcome::Succeeded),
     }
 }
 
@@ -89,9 +66,8 @@ fn begun(operation: Mark, state: State, count: u8) -> Place
         count,
     };
     match state {
-        State::Undecided => Place::Fetch(work),
-        State::Succeeded => Place::Clear(work, Outcome::Succeeded, Clearing::Read),
-        State::Failed(index) => Place::Clear(work, Outcome::Failed(index), Clearing::Read),
+        None => Place::Fetch(work),
+        Some(outcome) => Place::Clear(work, outcome, Clearing::Read),
     }
 }
 
@@ -108,7 +84,7 @@ fn tried(work: Work, entry: Entry, mine: Mark, word: Word) -> Place
         }
         Word::Placing(mark) => Place::Settle(mark, Settling::Read, Then::Try(work, entry, mine)),
         Word::Operation(mark) => {
-            if same(mark, work.operation) {
+            if mark == work.operation {
                 advance(work)
             } else {
                 Place::Begin(mark)
@@ -118,34 +94,10 @@ fn tried(work: Work, entry: Entry, mine: Mark, word: Word) -> Place
     }
 }
 
-/// The outcome that an operation has once it is decided; the one given where it is not.
-fn outcome_of(state: State, outcome: Outcome) -> Outcome
-    ensures { result ≡ outcome_after state outcome }
-{
-    match state {
-        State::Undecided => outcome,
-        State::Succeeded => Outcome::Succeeded,
-        State::Failed(index) => Outcome::Failed(index),
-    }
-}
-
 fn decided(work: Work, outcome: Outcome) -> Place
     ensures { result ≡ after_decide work outcome }
 {
-    let Work {
-        operation,
-        count,
-        ..
-    } = work;
-    Place::Clear(
-        Work {
-            operation,
-            index: 0,
-            count,
-        },
-        outcome,
-        Clearing::Read,
-    )
+    Place::Clear(Work { index: 0, ..work }, outcome, Clearing::Read)
 }
 
 fn cleared_load(work: Work, outcome: Outcome, entry: Entry, word: Word) -> Place
@@ -161,13 +113,13 @@ fn cleared_load(work: Work, outcome: Outcome, entry: Entry, word: Word) -> Place
     }
 }
 
-/// An outcome as collect answers it.
+/// An outcome as collect answers it. It is no `From`: an outcome is a number in that one answer only.
 fn answer(outcome: Outcome) -> u64
     ensures { result ≡ answer_of outcome }
 {
     match outcome {
         Outcome::Succeeded => 0,
-        Outcome::Failed(index) => index as u64 + 1,
+        Outcome::Failed(index) => u64::from(index) + 1,
     }
 }
 
@@ -176,31 +128,17 @@ fn ended(operation: Mark, outcome: Outcome, own: Own) -> Place
     ensures { result ≡ after_last operation outcome own }
 {
     match own {
-        Own::List(mine) if same(mine, operation) => Place::Finished(answer(outcome)),
-        own => go_home(own),
+        Own::List(mine) if mine == operation => Place::Finished(answer(outcome)),
+        own => own.home(),
     }
 }
 
 fn cleared_swap(work: Work, outcome: Outcome, own: Own) -> Place
     ensures { result ≡ after_clear_swap work outcome own }
 {
-    let Work {
-        operation,
-        index,
-        count,
-    } = work;
-    if index < count && count - index > 1 {
-        Place::Clear(
-            Work {
-                operation,
-                index: index + 1,
-                count,
-            },
-            outcome,
-            Clearing::Read,
-        )
-    } else {
-        ended(operation, outcome, own)
+    match entry_after(work) {
+        Some(next) => Place::Clear(next, outcome, Clearing::Read),
+        None => ended(work.operation, outcome, own),
     }
 }
 
@@ -209,10 +147,12 @@ fn cleared(work: Work, outcome: Outcome, clearing: Clearing, own: Own, seen: See
     ensures { result ≡ clear_next work outcome clearing own seen }
 {
     match (clearing, seen) {
-        (Clearing::Read, Seen::Entry(entry)) => Place::Clear(work, outcome, Clearing::Load(entry)),
-        (Clearing::Read, Seen::Overtaken) => go_home(own),
-        (Clearing::Load(entry), Seen::Word(word)) => cleared_load(work, outcome, entry, word),
-        (Clearing::Swap(_), Seen::Word(_)) => cleared_swap(work, outcome, own),
+        (Clearing::Read, Seen::Entry(Ok(Some(entry)))) => {
+            Place::Clear(work, outcome, Clearing::Load(entry))
+        }
+        (Clearing::Read, Seen::Entry(Err(Overtaken))) => own.home(),
+        (Clearing::Load(entry), Seen::Word(Some(word))) => cleared_load(work, outcome, entry, word),
+        (Clearing::Swap(_), Seen::Word(Some(_))) => cleared_swap(work, outcome, own),
         (clearing, _) => Place::Clear(work, outcome, clearing),
     }
 }
@@ -222,23 +162,17 @@ fn settled(mark: Mark, settling: Settling, then: Then, seen: Seen) -> Place
     ensures { result ≡ settle_next mark settling then seen }
 {
     match (settling, seen) {
-        (Settling::Read, Seen::Placing(placing)) => Place::Settle(
-            mark,
-            Settling::State(placing),
-            then,
-        ),
-        (Settling::Read, Seen::Overtaken) => go_on(then),
-        (Settling::State(placing), Seen::State(state)) => Place::Settle(
-            mark,
-            Settling::Swap(placing, undecided(state)),
-            then,
-        ),
-        (Settling::State(placing), Seen::Overtaken) => Place::Settle(
-            mark,
-            Settling::Swap(placing, false),
-            then,
-        ),
-        (Settling::Swap(_, _), Seen::Word(_)) => go_on(then),
+        (Settling::Read, Seen::Placing(Ok(placing))) => {
+            Place::Settle(mark, Settling::State(placing), then)
+        }
+        (Settling::Read, Seen::Placing(Err(Overtaken))) => go_on(then),
+        (Settling::State(placing), Seen::State(Ok(state))) => {
+            Place::Settle(mark, Settling::Swap(placing, state.is_none()), then)
+        }
+        (Settling::State(placing), Seen::State(Err(Overtaken))) => {
+            Place::Settle(mark, Settling::Swap(placing, false), then)
+        }
+        (Settling::Swap(_, _), Seen::Word(Some(_))) => go_on(then),
         (settling, _) => Place::Settle(mark, settling, then),
     }
 }
@@ -248,21 +182,20 @@ pub fn next(place: Place, own: Own, seen: Seen) -> Place
     ensures { result ≡ next_place place own seen }
 {
     match (place, seen) {
-        (Place::Look(at), Seen::Word(word)) => looked(at, word),
-        (Place::Begin(mark), Seen::Operation(state, count)) => begun(mark, state, count),
-        (Place::Begin(_), Seen::Overtaken) => go_home(own),
-        (Place::Fetch(work), Seen::Entry(entry)) => Place::Make(work, entry),
-        (Place::Fetch(_), Seen::Overtaken) => go_home(own),
-        (Place::Make(work, entry), Seen::Made(mark)) => Place::Try(work, entry, mark),
-        (Place::Try(work, entry, mine), Seen::Word(word)) => tried(work, entry, mine, word),
-        (Place::Decide(work, outcome), Seen::State(state)) => decided(
-            work,
-            outcome_of(state, outcome),
-        ),
-        (Place::Decide(_, _), Seen::Overtaken) => go_home(own),
-        (Place::Clear(work, outcome, clearing), seen) => cleared(
-            work, outcome, clearing, own, seen,
-        ),
+        (Place::Look(at), Seen::Word(Some(word))) => looked(at, word),
+        (Place::Begin(mark), Seen::Operation(Ok((state, count)))) => begun(mark, state, count),
+        (Place::Begin(_), Seen::Operation(Err(Overtaken))) => own.home(),
+        (Place::Fetch(work), Seen::Entry(Ok(Some(entry)))) => Place::Make(work, entry),
+        (Place::Fetch(_), Seen::Entry(Err(Overtaken))) => own.home(),
+        (Place::Make(work, entry), Seen::Made(Ok(mark))) => Place::Try(work, entry, mark),
+        (Place::Try(work, entry, mine), Seen::Word(Some(word))) => tried(work, entry, mine, word),
+        (Place::Decide(work, outcome), Seen::State(Ok(state))) => {
+            decided(work, state.unwrap_or(outcome))
+        }
+        (Place::Decide(_, _), Seen::State(Err(Overtaken))) => own.home(),
+        (Place::Clear(work, outcome, clearing), seen) => {
+            cleared(work, outcome, clearing, own, seen)
+        }
         (Place::Settle(mark, settling, then), seen) => settled(mark, settling, then, seen),
         (place, _) => place,
     }

@@ -1,9 +1,9 @@
 //! A whole run: an opening, a list of calls, and a close.
-ghost use Rattle.std.specs.Prelude.{◌≡◌, ◌<◌, min, true, false, length, is_ok, IfOk, slice_index};
+ghost use Rattle.std.specs.Prelude.{◌≡◌, ◌<◌, ◌≤◌, min, true, false, [], length, is_ok, IfOk, slice_index, vec_capacity};
 ghost use Rattle.word.specs.Word.{reading_of};
 ghost use Rattle.model.specs.Perform.{closed};
-ghost use Rattle.machine.specs.declared.run.Request.TheVariants.{Start};
-ghost use Rattle.machine.specs.Runs.{asked, answers_to, after_requests, value_of, values_in, Played, Ran, RunPromises};
+ghost use Rattle.machine.specs.declared.run.NotRun.TheVariants.{Memory};
+ghost use Rattle.machine.specs.Runs.{asked, answers_to, after_requests, value_of, values_in, HasRoom, Played, Ran, RunPromises};
 ghost use Rattle.machine.specs.View.{view};
 
 use super::machine::{Machine, Receipt};
@@ -18,9 +18,9 @@ const MOST_WORDS: u64 = 256;
 
 /// A call that a run is to make.
 #[derive(Clone, Copy)]
-pub enum Request {
-    /// Start the core with the list of this index.
-    Start(u8, usize),
+pub enum Request<'a> {
+    /// Start the core with the list. There is none where no lawful list could be made, and the start is refused with 9 then.
+    Start(u8, Option<&'a Entries>),
     /// Start the core with a read of a word.
     Read(u8, u64),
     Step(u8),
@@ -38,7 +38,7 @@ pub struct Report {
 }
 
 /// Why a run was not made. The bank is as it was then.
-#[derive(Clone, Copy)]
+#[derive(Clone, Copy, PartialEq, Eq, Debug)]
 pub enum NotRun {
     /// There was no memory for the report.
     Memory,
@@ -46,36 +46,22 @@ pub enum NotRun {
     Refused(Refusal),
 }
 
-/// Starts the core with the list of the index, if a lawful one could be made.
-fn start<B: Bank>(
-    machine: &mut Machine<B>,
-    core: u8,
-    lists: &[Option<Entries>],
-    at: usize,
-) -> Result<u64, Refusal>
-    ensures answer { result ≡ (asked (view B.Bank.words machine.old) lists.now (Start core at)).answer }
-    ensures after { view B.Bank.words machine.new ≡ (asked (view B.Bank.words machine.old) lists.now (Start core at)).world }
-{
-    if at >= lists.len() {
-        return Err(Refusal::List);
-    }
-    match &lists[at] {
-        Some(list) => machine.start(core, list),
-        None => Err(Refusal::List),
+impl From<AllocError> for NotRun {
+    ghost from_gives = { λ _ r. r ≡ Memory };
+
+    fn from(_e: AllocError) -> NotRun {
+        Self::Memory
     }
 }
 
 /// Makes the call, and answers what it answers.
-fn ask<B: Bank>(
-    machine: &mut Machine<B>,
-    lists: &[Option<Entries>],
-    request: Request,
-) -> Result<u64, Refusal>
-    ensures answer { result ≡ (asked (view B.Bank.words machine.old) lists.now request).answer }
-    ensures after { view B.Bank.words machine.new ≡ (asked (view B.Bank.words machine.old) lists.now request).world }
+fn ask<B: Bank>(machine: &mut Machine<B>, request: Request<'_>) -> Result<u64, Refusal>
+    ensures answer { result ≡ (asked (view B.Bank.words machine.old) request.entry).answer }
+    ensures after { view B.Bank.words machine.new ≡ (asked (view B.Bank.words machine.old) request.entry).world }
 {
     match request {
-        Request::Start(core, at) => start(machine, core, lists, at),
+        Request::Start(core, Some(list)) => machine.start(core, list),
+        Request::Start(_, None) => Err(Refusal::List),
         Request::Read(core, word) => machine.start_read(core, word),
         Request::Step(core) => machine.step(core),
         Request::Collect(core) => machine.collect(core),
@@ -83,19 +69,19 @@ fn ask<B: Bank>(
     }
 }
 
-/// Makes every call in turn, and puts down what each answered.
+/// Makes every call in turn, and puts down what each answered, where there is room for it.
 fn ask_all<B: Bank>(
     machine: &mut Machine<B>,
-    lists: &[Option<Entries>],
-    requests: &[Request],
-    answers: &mut [Result<u64, Refusal>],
+    requests: &[Request<'_>],
+    answers: &mut Vec<Result<u64, Refusal>>,
 )
-    requires { length answers.old ≡ length requests.now }
-    ensures answers { answers.new ≡ answers_to (view B.Bank.words machine.old) lists.now requests.now }
-    ensures after { view B.Bank.words machine.new ≡ after_requests (view B.Bank.words machine.old) lists.now requests.now }
+    requires none { answers.old.items ≡ [] }
+    requires room { length requests.now ≤ vec_capacity answers.old }
+    ensures answers { answers.new.items ≡ answers_to (view B.Bank.words machine.old) requests.now }
+    ensures after { view B.Bank.words machine.new ≡ after_requests (view B.Bank.words machine.old) requests.now }
 {
-    for i in 0..requests.len() {
-        answers[i] = ask(machine, lists, requests[i]);
+    for request in requests {
+        answers.push(ask(machine, *request)).unwrap();
     }
 }
 
@@ -104,22 +90,21 @@ fn value<B: Bank>(bank: &B, at: u64) -> u64
     requires { at < length (B.Bank.words bank.now) }
     ensures { result ≡ value_of (reading_of (slice_index (B.Bank.words bank.now) at)) }
 {
-    match bank.load(at) {
-        Ok(raw) => match Word::read(raw) {
-            Word::Plain(value) => value,
-            _ => 0,
-        },
-        Err(_) => unreachable(),
+    match bank.load(at).map(Word::read) {
+        Ok(Word::Plain(value)) => value,
+        _ => 0,
     }
 }
 
-/// Puts down the value that each word holds.
-fn read_all<B: Bank>(bank: &B, values: &mut [u64])
-    requires { length values.old ≡ length (B.Bank.words bank.now) }
-    ensures { values.new ≡ values_in (B.Bank.words bank.now) }
+/// Puts down the value that each word holds, where there is room for it.
+fn read_all<B: Bank>(bank: &B, values: &mut Vec<u64>)
+    requires none { values.old.items ≡ [] }
+    requires room { length (B.Bank.words bank.now) ≤ vec_capacity values.old }
+    ensures { values.new.items ≡ values_in (B.Bank.words bank.now) }
 {
-    for i in 0..values.len() {
-        values[i] = value(bank, i as u64);
+    // A bank's words go by their numbers alone.
+    for at in 0..bank.size() {
+        values.push(value(bank, at)).unwrap();
     }
 }
 
@@ -128,19 +113,20 @@ fn finish<B: Bank>(machine: &mut Machine<B>, receipt: Receipt)
     requires { (view B.Bank.words machine.old).table.running ≡ true }
     ensures { view B.Bank.words machine.new ≡ closed (view B.Bank.words machine.old) }
 {
+    // No `unwrap`: an error would hold a receipt, which cannot be let go.
     match machine.close(receipt) {
         Ok(_) => {}
         Err(_) => unreachable(),
     }
 }
 
-/// A report with room for so many answers and words.
-fn blank(heap: Global, answers: usize, words: usize) -> Result<Report, AllocError>
-    ensures { IfOk result (λ x. (length x.answers.items ≡ answers) × (length x.words.items ≡ words)) }
+/// An empty report with room for so many answers and words.
+fn blank(alloc: Global, answers: usize, words: usize) -> Result<Report, AllocError>
+    ensures { IfOk result (λ x. HasRoom x answers words) }
 {
     Ok(Report {
-        answers: vec![in heap; Ok(0); answers]?,
-        words: vec![in heap; 0; words]?,
+        answers: Vec::with_capacity(alloc, answers)?,
+        words: Vec::with_capacity(alloc, words)?,
     })
 }
 
@@ -148,18 +134,18 @@ fn blank(heap: Global, answers: usize, words: usize) -> Result<Report, AllocErro
 fn play<B: Bank>(
     bank: B,
     setting: Setting,
-    lists: &[Option<Entries>],
-    requests: &[Request],
-    answers: &mut [Result<u64, Refusal>],
+    requests: &[Request<'_>],
+    answers: &mut Vec<Result<u64, Refusal>>,
 ) -> (B, Result<(), Refusal>)
-    requires { length answers.old ≡ length requests.now }
-    ensures played { Played (B.Bank.words bank) setting lists.now requests.now result.1 answers.new (B.Bank.words result.0) }
+    requires none { answers.old.items ≡ [] }
+    requires room { length requests.now ≤ vec_capacity answers.old }
+    ensures played { Played (B.Bank.words bank) setting requests.now result.1 answers.new.items (B.Bank.words result.0) }
     ensures unaltered { is_ok result.1 ≡ false → result.0 ≡ bank }
 {
     let mut machine = Machine::over(bank);
     match machine.open(setting) {
         Ok(receipt) => {
-            ask_all(&mut machine, lists, requests, answers);
+            ask_all(&mut machine, requests, answers);
             finish(&mut machine, receipt);
             (machine.into_bank(), Ok(()))
         }
@@ -171,45 +157,40 @@ fn play<B: Bank>(
 fn run_into<B: Bank>(
     bank: B,
     setting: Setting,
-    lists: &[Option<Entries>],
-    requests: &[Request],
-    report: Report,
+    requests: &[Request<'_>],
+    mut report: Report,
 ) -> (B, Result<Report, NotRun>)
-    requires { (length report.answers.items ≡ length requests.now) × (length report.words.items ≡ min (length (B.Bank.words bank)) 256) }
-    ensures ran { Ran (B.Bank.words bank) setting lists.now requests.now result.1 (B.Bank.words result.0) }
+    requires { HasRoom report (length requests.now) (min (length (B.Bank.words bank)) 256) }
+    ensures ran { Ran (B.Bank.words bank) setting requests.now result.1 (B.Bank.words result.0) }
     ensures unaltered { is_ok result.1 ≡ false → result.0 ≡ bank }
 {
-    let Report {
-        mut answers,
-        mut words,
-    } = report;
-    let (bank, played) = play(bank, setting, lists, requests, answers.as_mut_slice());
+    let (bank, played) = play(bank, setting, requests, &mut report.answers);
     match played {
         Ok(()) => {
-            read_all(&bank, words.as_mut_slice());
-            (bank, Ok(Report { answers, words }))
+            read_all(&bank, &mut report.words);
+            (bank, Ok(report))
         }
         Err(refusal) => (bank, Err(NotRun::Refused(refusal))),
     }
 }
 
 /// A whole run: opens a machine over the bank, makes every call in turn, closes it, and gives the bank back. The memory for the report
-/// is taken first, so that want of it finds nothing begun. `lists` holds None where no lawful list could be made; a start with such an index,
-/// or one past the end, is refused with 9.
+/// is taken first, so that want of it finds nothing begun.
+// The setting and the requests are passed down as they are: each clause names them, and would name the fields of a struct of both.
 pub fn run<B: Bank>(
-    heap: Global,
+    alloc: Global,
     bank: B,
     setting: Setting,
-    lists: &[Option<Entries>],
-    requests: &[Request],
+    requests: &[Request<'_>],
 ) -> (B, Result<Report, NotRun>)
-    ensures ran { Ran (B.Bank.words bank) setting lists.now requests.now result.1 (B.Bank.words result.0) }
+    ensures ran { Ran (B.Bank.words bank) setting requests.now result.1 (B.Bank.words result.0) }
     ensures unaltered { is_ok result.1 ≡ false → result.0 ≡ bank }
-    ensures promises { RunPromises (B.Bank.words bank) setting lists.now requests.now }
+    ensures promises { RunPromises (B.Bank.words bank) setting requests.now }
 {
+    // As `usize`: there is no `From`, and it is proved to fit.
     let size = bank.size().min(MOST_WORDS) as usize;
-    match blank(heap, requests.len(), size) {
-        Ok(report) => run_into(bank, setting, lists, requests, report),
-        Err(_) => (bank, Err(NotRun::Memory)),
+    match blank(alloc, requests.len(), size) {
+        Ok(report) => run_into(bank, setting, requests, report),
+        Err(error) => (bank, Err(NotRun::from(error))),
     }
 }

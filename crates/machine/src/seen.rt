@@ -1,25 +1,23 @@
 //! What the one access of a step saw.
-use descriptor::{Placing, State};
+use descriptor::{Overtaken, Placing, State, UsedUp};
 use entries::Entry;
 use word::{Mark, Word};
 
 /// What a step's access saw, and no more than its rule reads.
 #[derive(Clone, Copy)]
 pub enum Seen {
-    /// Nothing is there: no such word, no such entry, or no access.
+    /// Nothing: a core at rest makes no access.
     Nothing,
-    /// The descriptor's newest number is another.
-    Overtaken,
-    /// A word, loaded or found by a swap.
-    Word(Word),
+    /// A word, loaded or found by a swap, if the bank has it.
+    Word(Option<Word>),
     /// An operation's state and count.
-    Operation(State, u8),
-    /// One entry of an operation.
-    Entry(Entry),
+    Operation(Result<(State, u8), Overtaken>),
+    /// One entry of an operation, if it has that many.
+    Entry(Result<Option<Entry>, Overtaken>),
     /// An operation's state.
-    State(State),
+    State(Result<State, Overtaken>),
     /// A placing's contents.
-    Placing(Placing),
+    Placing(Result<Placing, Overtaken>),
     /// The mark that a creation made.
-    Made(Mark),
+    Made(Result<Mark, UsedUp>),
 }

@@ -20,7 +20,7 @@ mod tests {
         rights: 0,
     };
 
-    // The answer, or 100 and the refusal's number.
+    // The answer, or 100 and the refusal's number: one kind of value for the tables below.
     fn number(answer: Result<u64, Refusal>) -> u64 {
         match answer {
             Ok(value) => value,
@@ -42,8 +42,8 @@ mod tests {
         assert_eq!(rt; machine.into_bank().size(), 2);
     }
 
-    // One list of two words, 0 to 5 and 0 to 6.
-    fn lists() -> Result<[Option<Entries>; 1], Fail> {
+    // A list of two words, 0 to 5 and 0 to 6.
+    fn list() -> Result<Entries, Fail> {
         let mut list = Entries::new();
         let five = Entry {
             word: 0,
@@ -55,25 +55,23 @@ mod tests {
             expected: 0,
             new: 6,
         };
-        match list.fill(&[five, six]) {
-            Ok(()) => Ok([Some(list)]),
-            Err(_) => Err(Fail::new("no list")),
-        }
+        list.fill(&[five, six])?;
+        Ok(list)
     }
 
     // The start of the list on core 0, twenty steps, a collect, and a read by core 1: the last four answers, and what two words hold.
     fn last_answers<B: Bank + Drop>(
-        heap: Global,
+        alloc: Global,
         bank: B,
         setting: Setting,
     ) -> Result<[u64; 6], Fail> {
+        let list = list()?;
         let mut requests = [Request::Step(0); 24];
-        requests[0] = Request::Start(0, 0);
+        requests[0] = Request::Start(0, Some(&list));
         requests[21] = Request::Collect(0);
         requests[22] = Request::Read(1, 1);
         requests[23] = Request::Step(1);
-        let lists = lists()?;
-        let (_, ran) = run(heap, bank, setting, &lists, &requests);
+        let (_, ran) = run(alloc, bank, setting, &requests);
         match ran {
             Ok(report) => match (report.answers.as_slice(), report.words.as_slice()) {
                 ([.., a, b, c, d], [v, w]) => Ok([

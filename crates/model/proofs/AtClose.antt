@@ -7,9 +7,8 @@ use Rattle.word.specs.Word.{reading_of, raw_of}
 use Rattle.bank.proofs.Laws.{swaps_of}
 use Rattle.entries.specs.declared.Entry.{Entry}
 use Rattle.entries.specs.Lists.{entry_at}
-use Rattle.descriptor.specs.declared.contents.State.{State}
-use Rattle.descriptor.specs.declared.contents.State.TheVariants as state
-use Rattle.descriptor.specs.Contents.{entries_of, value_by, value_among}
+use Rattle.descriptor.specs.declared.contents.Outcome.TheVariants as outcome
+use Rattle.descriptor.specs.Contents.{entries_of, value_by, value_among, State}
 use Rattle.cores.specs.declared.table.Refusal.{Refusal}
 use Rattle.model.specs.World.{World, core_at, operation_at, placing_at}
 use Rattle.model.specs.Step.{Change, nothing, swaps, decides, makes, change_world, step_change}
@@ -52,9 +51,9 @@ perform_length w c = by (refusal_of w c)
 
 -- what each entry gives its word is in range, and so is what a list gives a word
 by_fits : (b : Bounds) (s : State) (e : Entry) → EntryFits b e → value_by s e < 2 ^ 61
-by_fits b state.Undecided e fits = fits.1
-by_fits b state.Succeeded e fits = fits.2
-by_fits b (state.Failed i) e fits = fits.1
+by_fits b None e fits = fits.1
+by_fits b (Some outcome.Succeeded) e fits = fits.2
+by_fits b (Some (outcome.Failed i)) e fits = fits.1
 
 among_fits : (b : Bounds) (s : State) (es : List Entry) (i : ℕ) → ((j : ℕ) → j < length es → EntryFits b (entry_at es j)) → value_among s es i < 2 ^ 61
 unfolding value_among

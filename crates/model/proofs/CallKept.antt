@@ -1,4 +1,4 @@
-use Rattle.std.proofs.Common.{◌≡◌, ℕ, ◌+◌, ◌<◌, ◌≤◌, [], length, Option, sym, refl, ap, ◌∙◌, subst, inl, ⊎_elim, le_refl, arith}
+use Rattle.std.proofs.Common.{◌≡◌, ℕ, ◌+◌, ◌<◌, ◌≤◌, [], length, None, Option, sym, refl, ap, ◌∙◌, subst, inl, ⊎_elim, le_refl, arith}
 use Rattle.std.proofs.lemmas.Bool.{cases_eq, cases_lt, true≢false, false≢true}
 use Rattle.word.specs.declared.Mark.{Mark}
 use Rattle.word.specs.declared.Word.{Word}
@@ -8,7 +8,6 @@ use Rattle.entries.specs.Listed.{listed}
 use Rattle.entries.proofs.Law.{listed_lawful}
 use Rattle.descriptor.specs.declared.Descriptor.{Descriptor}
 use Rattle.descriptor.specs.declared.contents.Operation.{Operation}
-use Rattle.descriptor.specs.declared.contents.State.TheVariants as state
 use Rattle.descriptor.specs.Descriptors.{last_number}
 use Rattle.descriptor.specs.Contents.{undecided, entries_of}
 use Rattle.cores.specs.declared.place.Place.TheVariants.{Idle, Finished, Look, Begin}
@@ -91,7 +90,7 @@ pub view_started : (w : World) (k : ℕ) (mine : Own) (l : Option Entries) → k
 view_started w k mine l lt left =
     view_core w k (started (core_at w k) mine l) lt
     ∙ ap (λ (d : Descriptor Operation). with_record (view w) k (record { place = home mine; own = mine; halted = (core_at w k).halted; operation = d; placing = (core_at w k).placing })) (created_left (core_at w k).operation (undecided l) left)
-    ∙ (λ i. record { word = (view w).word; num = upd (view w).num k ((view w).num k + 1); ents = upd (view w).ents k (entries_of l); state = upd (view w).state k state.Undecided; pnum = upd_self (view w).pnum k _ refl i; pl = upd_self (view w).pl k _ refl i; place = upd (view w).place k (home mine); own = upd (view w).own k mine })
+    ∙ (λ i. record { word = (view w).word; num = upd (view w).num k ((view w).num k + 1); ents = upd (view w).ents k (entries_of l); state = upd (view w).state k None; pnum = upd_self (view w).pnum k _ refl i; pl = upd_self (view w).pl k _ refl i; place = upd (view w).place k (home mine); own = upd (view w).own k mine })
 
 pub view_collected : (w : World) (k : ℕ) → k < length w.table.cores → view (with_core w k (collected (core_at w k))) ≡ disown (move (view w) k Idle) k own.Nothing
 view_collected w k lt =

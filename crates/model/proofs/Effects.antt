@@ -1,11 +1,11 @@
-use Rattle.std.proofs.Common.{◌≡◌, ℕ, ◌+◌, ◌<◌, ◌≤◌, true, false, ◌⊎◌, List, length, sym, refl, ◌∙◌, subst, inl, inr, le_refl, arith}
+use Rattle.std.proofs.Common.{◌≡◌, ℕ, ◌+◌, ◌<◌, ◌≤◌, true, false, ◌⊎◌, List, length, Some, None, sym, refl, ◌∙◌, subst, inl, inr, le_refl, arith}
 use Rattle.std.proofs.lemmas.Bool.{both_ways, true≢false}
 use Rattle.word.specs.declared.Mark.{Mark}
 use Rattle.word.specs.declared.Word.{Word}
 use Rattle.word.specs.declared.Word.TheVariants as word
 use Rattle.entries.specs.declared.Entry.{Entry}
-use Rattle.descriptor.specs.declared.contents.State.{State}
-use Rattle.descriptor.specs.declared.contents.State.TheVariants as state
+use Rattle.descriptor.specs.declared.contents.Outcome.TheVariants as outcome
+use Rattle.descriptor.specs.Contents.{State}
 use Rattle.descriptor.specs.declared.contents.Placing.{Placing}
 use Rattle.cores.specs.declared.place.Place.{Place}
 use Rattle.cores.specs.declared.place.Place.TheVariants.{Idle}
@@ -86,12 +86,12 @@ rely_move w c p k f = record {
 
 -- An operation is decided; to succeed, all its words hold its mark.
 pub rely_settled : (w : Memory) (T : Mark) (s : State) (k : ℕ) → Current w T → Undecided w T
-    → (s ≡ state.Succeeded → (j : ℕ) → j < length (w.ents T.core) → w.word (entry w T j).word ≡ word.Operation T) → Rely w (settled w T.core s) k
+    → (s ≡ (Some outcome.Succeeded) → (j : ℕ) → j < length (w.ents T.core) → w.word (entry w T j).word ≡ word.Operation T) → Rely w (settled w T.core s) k
 rely_settled w T s k cur und full = record {
   nums = λ c. le_refl (w.num c);
   still = λ T m c. c;
   ents = λ T c0 c. refl;
-  states = λ U c0 c. upd_both w.state T.core U.core s (λ x. (x ≡ w.state U.core) ⊎ (w.state U.core ≡ state.Undecided)) (λ q. inr (rw q und)) (λ _. inl refl);
+  states = λ U c0 c. upd_both w.state T.core U.core s (λ x. (x ≡ w.state U.core) ⊎ (w.state U.core ≡ None)) (λ q. inr (rw q und)) (λ _. inl refl);
   pnums = λ c. le_refl (w.pnum c);
   pl_still = λ m md c. c;
   pls = λ m c0 c. refl;
@@ -104,7 +104,7 @@ rely_settled w T s k cur und full = record {
   unplaced = λ m md u. u;
   lives = λ m d md un h e. let h0 = h e in record {
     current = h0.current;
-    unfinished = upd_both w.state T.core d.operation.core s (λ x. x ≡ state.Succeeded → ⊥)
+    unfinished = upd_both w.state T.core d.operation.core s (λ x. x ≡ (Some outcome.Succeeded) → ⊥)
         (λ q z. let x = full z h0.index (rw (← q) h0.inside) in let bad : ◌≡◌ {A = ℕ} 0 1 = cc h0.names in omega arith)
         (λ _. h0.unfinished);
     index = h0.index;
@@ -160,7 +160,7 @@ rely_start w c es o p k ne at_rest unwanted = record {
   nums = λ a. upd_both w.num c a (w.num c + 1) (λ x. w.num a ≤ x) (λ q. rw q (omega arith)) (λ _. le_refl (w.num a));
   still = λ T md c1. sym (upd_other w.num c T.core (w.num c + 1) (λ q. other T q md c1)) ∙ c1;
   ents = λ T c0 c1. upd_other w.ents c T.core es (λ q. other T q (omega (arith, c0)) c1);
-  states = λ T c0 c1. inl (upd_other w.state c T.core state.Undecided (λ q. other T q (omega (arith, c0)) c1));
+  states = λ T c0 c1. inl (upd_other w.state c T.core None (λ q. other T q (omega (arith, c0)) c1));
   pnums = λ c. le_refl (w.pnum c);
   pl_still = λ m md c. c;
   pls = λ m c0 c. refl;
@@ -180,7 +180,7 @@ rely_start w c es o p k ne at_rest unwanted = record {
   lives = λ m b md un h e. let h0 = h e in
       let ne : b.operation.core ≡ c → ⊥ = λ q. true≢false (rw (q, at_rest) at h0.not_past) in record {
         current = upd_other w.num c b.operation.core (w.num c + 1) ne ∙ h0.current;
-        unfinished = λ z. h0.unfinished (sym (upd_other w.state c b.operation.core state.Undecided ne) ∙ z);
+        unfinished = λ z. h0.unfinished (sym (upd_other w.state c b.operation.core None ne) ∙ z);
         index = h0.index;
         inside = rw (upd_other w.ents c b.operation.core es ne) h0.inside;
         names = rw (upd_other w.ents c b.operation.core es ne) h0.names;

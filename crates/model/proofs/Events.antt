@@ -1,14 +1,12 @@
-use Rattle.std.proofs.Common.{◌≡◌, ℕ, ◌<◌, Bool, true, false, length, sym, refl, ◌∙◌, subst, arith}
+use Rattle.std.proofs.Common.{◌≡◌, ℕ, ◌<◌, Bool, true, false, length, Some, None, sym, refl, ◌∙◌, subst, arith}
 use Rattle.std.proofs.lemmas.Bool.{cond_both, false≢true}
 use Rattle.word.specs.declared.Mark.{Mark}
 use Rattle.word.specs.declared.Word.{Word}
 use Rattle.word.specs.declared.Word.TheVariants as word
 use Rattle.entries.specs.declared.Entry.{Entry}
-use Rattle.descriptor.specs.declared.contents.State.TheVariants as state
 use Rattle.descriptor.specs.declared.contents.Outcome.{Outcome}
 use Rattle.descriptor.specs.declared.contents.Outcome.TheVariants as outcome
 use Rattle.descriptor.specs.declared.contents.Placing.{Placing}
-use Rattle.descriptor.specs.Contents.{state_of}
 use Rattle.cores.specs.declared.place.Work.{Work}
 use Rattle.cores.specs.declared.place.Then.{Then}
 use Rattle.cores.specs.declared.place.Then.TheVariants as then
@@ -59,13 +57,13 @@ pub data Event (w w' : Memory) (c : ℕ) : Type 0 where
   -- a read sees its word plain
   read_done : (i v : ℕ) → w.place c ≡ Look i → w'.place c ≡ Finished v → shown_in w i ≡ v → shown_in w' ≡ shown_in w → w'.state ≡ w.state → Event w w' c
   -- a core clears the last entry of its own operation
-  own_done : (M : Mark) (o : Outcome) → w.own c ≡ own.List M → w.state c ≡ state_of o → w'.place c ≡ Finished (answer_of o) → shown_in w' ≡ shown_in w → w'.state ≡ w.state → Event w w' c
+  own_done : (M : Mark) (o : Outcome) → w.own c ≡ own.List M → w.state c ≡ Some o → w'.place c ≡ Finished (answer_of o) → shown_in w' ≡ shown_in w → w'.state ≡ w.state → Event w w' c
   -- Try sees another value than entry i expects, while the entries before it, of an undecided operation, show what they expect
   differs : (t : Work) (i : ℕ) → w'.place c ≡ Decide t (outcome.Failed i) → Made w t.operation → (Current w t.operation → Sight w t.operation i)
       → shown_in w' ≡ shown_in w → w'.state ≡ w.state → Event w w' c
   -- Decide changes a state
   decides : (t : Work) (o : Outcome) → w.place c ≡ Decide t o → Current w t.operation → Undecided w t.operation
-      → w' ≡ move (settled w t.operation.core (state_of o)) c (Clear (first_entry t.operation t.count) o clearing.Read) → Event w w' c
+      → w' ≡ move (settled w t.operation.core (Some o)) c (Clear (first_entry t.operation t.count) o clearing.Read) → Event w w' c
 
 -- numbers, lists and what cores run stay; so do the places of other cores
 pub record Stepped (w w' : Memory) (c : ℕ) : Type 0 where
@@ -152,13 +150,13 @@ stepped_differs w c t e m v inv here s ne =
 
     before : PlaceOk w c (Try t e m) → Current w t.operation → Undecided w t.operation → (j : ℕ) → j < t.index → HoldsExpected (shown_in w) (w.ents t.operation.core) j
     before h cur und j l =
-        rw (h.0.passed cur und j l, und) (value_found state.Undecided (w.ents t.operation.core) j (inv.lists t.operation.core) (omega (arith, inside h cur)))
+        rw (h.0.passed cur und j l, und) (value_found None (w.ents t.operation.core) j (inv.lists t.operation.core) (omega (arith, inside h cur)))
 
     shown_differs : entry w t.operation t.index ≡ e → shown_in w (entry w t.operation t.index).word ≡ (entry w t.operation t.index).expected → v ≡ e.expected
     shown_differs q z = let y : shown_in w e.word ≡ e.expected = subst (λ (x : Entry). shown_in w x.word ≡ x.expected) q z in rw s at y
 
 pub stepped_decides : (w : Memory) (c : ℕ) (t : Work) (o : Outcome) → w.place c ≡ Decide t o → Current w t.operation → Undecided w t.operation
-    → Stepped w (move (settled w t.operation.core (state_of o)) c (Clear (first_entry t.operation t.count) o clearing.Read)) c
+    → Stepped w (move (settled w t.operation.core (Some o)) c (Clear (first_entry t.operation t.count) o clearing.Read)) c
 stepped_decides w c t o here cur und =
     record { nums = refl; lists = refl; owns = refl; others = λ k ne. upd_other w.place c k (Clear (first_entry t.operation t.count) o clearing.Read) ne; event = decides t o here cur und refl }
 
@@ -185,13 +183,13 @@ cleared w c t o e w' inv here s =
     last (own.List M) q ok =
         cond_both (same_mark M t.operation) (Finished (answer_of o)) (Begin M) (λ p. Stepped w (move (with_word w w') c p) c)
         (λ y. let T-is : t.operation ≡ record { core = c; number = w.num c } = sym (same_mark_eq M t.operation y) ∙ ok.1 in
-        let decided : w.state t.operation.core ≡ state_of o = h.0.decided (subst (Current w) (sym T-is) refl) in
+        let decided : w.state t.operation.core ≡ Some o = h.0.decided (subst (Current w) (sym T-is) refl) in
         record {
           nums = refl;
           lists = refl;
           owns = refl;
           others = λ k ne. upd_other w.place c k (Finished (answer_of o)) ne;
-          event = own_done M o q (subst (λ (T : Mark). w.state T.core ≡ state_of o) T-is decided) (upd_same w.place c (Finished (answer_of o))) s refl;
+          event = own_done M o q (subst (λ (T : Mark). w.state T.core ≡ Some o) T-is decided) (upd_same w.place c (Finished (answer_of o))) s refl;
         })
         (λ _. goes_to (Begin M) (refl, refl))
 

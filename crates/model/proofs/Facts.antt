@@ -1,15 +1,13 @@
-use Rattle.std.proofs.Common.{◌≡◌, ℕ, ◌<◌, ◌≤◌, Bool, true, false, not, ◌&&◌, eqb, ltb, ◌⊎◌, List, [], length}
+use Rattle.std.proofs.Common.{◌≡◌, ℕ, ◌<◌, ◌≤◌, Bool, true, false, not, ◌&&◌, eqb, ltb, ◌⊎◌, List, [], length, Some, None}
 use Rattle.word.specs.declared.Mark.{Mark}
 use Rattle.word.specs.declared.Word.{Word}
 use Rattle.word.specs.declared.Word.TheVariants as word
 use Rattle.entries.specs.declared.Entry.{Entry}
 use Rattle.entries.specs.Lists.{entry_at}
-use Rattle.descriptor.specs.declared.contents.State.{State}
-use Rattle.descriptor.specs.declared.contents.State.TheVariants as state
 use Rattle.descriptor.specs.declared.contents.Outcome.{Outcome}
 use Rattle.descriptor.specs.declared.contents.Outcome.TheVariants as outcome
 use Rattle.descriptor.specs.declared.contents.Placing.{Placing}
-use Rattle.descriptor.specs.Contents.{state_of}
+use Rattle.descriptor.specs.Contents.{State}
 use Rattle.cores.specs.declared.place.Work.{Work}
 use Rattle.cores.specs.declared.place.Then.{Then}
 use Rattle.cores.specs.declared.place.Then.TheVariants as then
@@ -35,7 +33,7 @@ abbrev pub Current : Memory → Mark → Type 0
 Current w T = w.num T.core ≡ T.number
 
 abbrev pub Undecided : Memory → Mark → Type 0
-Undecided w T = w.state T.core ≡ state.Undecided
+Undecided w T = w.state T.core ≡ None
 
 abbrev pub PlMade : Memory → Mark → Type 0
 PlMade w m = m.number ≤ w.pnum m.core
@@ -61,7 +59,7 @@ abbrev pub Matches : Memory → Mark → ℕ → Entry → Type 0
 Matches w T i e = Current w T → entry w T i ≡ e
 
 abbrev pub DecidedAs : Memory → Mark → Outcome → Type 0
-DecidedAs w T o = Current w T → w.state T.core ≡ state_of o
+DecidedAs w T o = Current w T → w.state T.core ≡ Some o
 
 -- What is asked of another core's place, as tests.
 
@@ -154,7 +152,7 @@ Unplaced w m = PlCurrent w m × (wants (w.place m.core) ≡ true)
 -- and its core has neither passed that entry nor stands before its clearing swap without having settled m.
 pub record LiveIn (num : ℕ → ℕ) (ents : ℕ → List Entry) (states : ℕ → State) (places_of : ℕ → Place) (m : Mark) (d : Placing) : Type 0 where
   pub current : num d.operation.core ≡ d.operation.number
-  pub unfinished : states d.operation.core ≡ state.Succeeded → ⊥
+  pub unfinished : states d.operation.core ≡ (Some outcome.Succeeded) → ⊥
   pub index : ℕ
   pub inside : index < length (ents d.operation.core)
   pub names : (entry_at (ents d.operation.core) index).word ≡ d.word
@@ -229,7 +227,7 @@ DecideOk w t (outcome.Failed i) = Passed w t.operation i × (i < t.count)
 
 -- a core that rests has no operation with entries still undecided
 abbrev pub Resting : Memory → ℕ → Type 0
-Resting w k = w.state k ≡ state.Undecided → w.ents k ≡ []
+Resting w k = w.state k ≡ None → w.ents k ≡ []
 
 abbrev pub PlaceOk : Memory → ℕ → Place → Type 0
 PlaceOk w k Idle = Resting w k
@@ -273,7 +271,7 @@ pub record Rely (w w' : Memory) (k : ℕ) : Type 0 where
   pub nums : (c : ℕ) → w.num c ≤ w'.num c
   pub still : (T : Mark) → Made w T → Current w' T → Current w T
   pub ents : (T : Mark) → Current w T → Current w' T → w'.ents T.core ≡ w.ents T.core
-  pub states : (T : Mark) → Current w T → Current w' T → (w'.state T.core ≡ w.state T.core) ⊎ (w.state T.core ≡ state.Undecided)
+  pub states : (T : Mark) → Current w T → Current w' T → (w'.state T.core ≡ w.state T.core) ⊎ (w.state T.core ≡ None)
   pub pnums : (c : ℕ) → w.pnum c ≤ w'.pnum c
   pub pl_still : (m : Mark) → PlMade w m → PlCurrent w' m → PlCurrent w m
   pub pls : (m : Mark) → PlCurrent w m → PlCurrent w' m → w'.pl m.core ≡ w.pl m.core

@@ -9,12 +9,10 @@ use Rattle.entries.specs.Lists.{entry_at}
 use Rattle.entries.specs.Listed.{listed}
 use Rattle.descriptor.specs.declared.Overtaken.{Overtaken}
 use Rattle.descriptor.specs.declared.contents.Operation.{Operation}
-use Rattle.descriptor.specs.declared.contents.State.{State}
-use Rattle.descriptor.specs.declared.contents.State.TheVariants as state
 use Rattle.descriptor.specs.declared.contents.Outcome.{Outcome}
 use Rattle.descriptor.specs.declared.contents.Outcome.TheVariants as outcome
 use Rattle.descriptor.specs.declared.contents.Placing.{Placing}
-use Rattle.descriptor.specs.Contents.{entry_in, entries_of}
+use Rattle.descriptor.specs.Contents.{entry_in, entries_of, State}
 use Rattle.cores.specs.declared.place.Work.{Work}
 use Rattle.cores.specs.declared.place.Then.{Then}
 use Rattle.cores.specs.declared.place.Then.TheVariants as then
@@ -130,9 +128,8 @@ module _ (b : Bounds) where
   look_fits i l (word.Foreign n) h = l
 
   begin_fits : (m : Mark) (n : ℕ) (s : State) → KnownOperation b m → PlaceFits b (after_begin m n s)
-  begin_fits m n state.Undecided h = h
-  begin_fits m n state.Succeeded h = (h, tt)
-  begin_fits m n (state.Failed i) h = (h, tt)
+  begin_fits m n None h = h
+  begin_fits m n (Some o) h = (h, tt)
 
   try_fits : (t : Work) (e : Entry) (m : Mark) → PlaceFits b (Try t e m) → (x : Word) → WordFits b x → PlaceFits b (after_try t e m x)
   try_fits t e m h (word.Plain v) l = cond_both (eqb v e.expected) _ _ (PlaceFits b) (λ _. (h.2, tt, h.0)) (λ _. h.0)

@@ -1,11 +1,11 @@
-use Rattle.std.proofs.Common.{◌≡◌, ℕ, ◌+◌, ◌<◌, ◌≤◌, true, false, List, length, sym, refl, ◌∙◌, subst, arith}
+use Rattle.std.proofs.Common.{◌≡◌, ℕ, ◌+◌, ◌<◌, ◌≤◌, true, false, List, length, Some, sym, refl, ◌∙◌, subst, arith}
 use Rattle.std.proofs.lemmas.Bool.{both_ways, true≢false, false≢true}
 use Rattle.word.specs.declared.Mark.{Mark}
 use Rattle.word.specs.declared.Word.{Word}
 use Rattle.word.specs.declared.Word.TheVariants as word
 use Rattle.entries.specs.declared.Entry.{Entry}
-use Rattle.descriptor.specs.declared.contents.State.{State}
-use Rattle.descriptor.specs.declared.contents.State.TheVariants as state
+use Rattle.descriptor.specs.declared.contents.Outcome.TheVariants as outcome
+use Rattle.descriptor.specs.Contents.{State}
 use Rattle.descriptor.specs.declared.contents.Placing.{Placing}
 use Rattle.cores.specs.declared.place.Place.{Place}
 use Rattle.cores.specs.declared.place.Place.TheVariants.{Idle}
@@ -86,7 +86,7 @@ own_settled w c s k (own.Read j) h = h
 own_settled w c s k (own.List m) h = h
 
 pub inv_settled : (w : Memory) (T : Mark) (s : State) → Inv w → Current w T → Undecided w T
-    → (s ≡ state.Succeeded → (j : ℕ) → j < length (w.ents T.core) → w.word (entry w T j).word ≡ word.Operation T) → Inv (settled w T.core s)
+    → (s ≡ (Some outcome.Succeeded) → (j : ℕ) → j < length (w.ents T.core) → w.word (entry w T j).word ≡ word.Operation T) → Inv (settled w T.core s)
 inv_settled w T s inv cur und full = record {
   words = λ j. word_settled w T.core s j (w.word j) (inv.words j);
   places_ok = λ k. place_on w (settled w T.core s) k (rely_settled w T s k cur und full) (w.place k) (inv.places_ok k);

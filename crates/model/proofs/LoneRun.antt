@@ -8,11 +8,10 @@ use Rattle.entries.specs.Lists.{entry_at}
 use Rattle.entries.specs.Listed.{listed}
 use Rattle.descriptor.specs.declared.Descriptor.{Descriptor}
 use Rattle.descriptor.specs.declared.contents.Operation.{Operation}
-use Rattle.descriptor.specs.declared.contents.State.{State}
 use Rattle.descriptor.specs.declared.contents.Outcome.{Outcome}
 use Rattle.descriptor.specs.declared.contents.Placing.{Placing}
 use Rattle.descriptor.specs.Descriptors.{last_number, created, changed, reading}
-use Rattle.descriptor.specs.Contents.{decided, with_outcome}
+use Rattle.descriptor.specs.Contents.{decided, with_outcome, State}
 use Rattle.cores.specs.declared.place.Work.{Work}
 use Rattle.cores.specs.declared.place.Place.{Place}
 use Rattle.cores.specs.declared.place.Own.TheVariants as own

@@ -12,7 +12,6 @@ use Rattle.entries.specs.Listed.{listed}
 use Rattle.descriptor.specs.declared.Descriptor.{Descriptor}
 use Rattle.descriptor.specs.declared.contents.Operation.{Operation}
 use Rattle.descriptor.specs.declared.contents.Placing.{Placing}
-use Rattle.descriptor.specs.declared.contents.State.TheVariants as state
 use Rattle.descriptor.specs.Descriptors.{last_number}
 use Rattle.descriptor.specs.Contents.{undecided}
 use Rattle.cores.specs.declared.place.Place.TheVariants.{Begin}
@@ -90,6 +89,6 @@ first_started ws s k l mine x f =
     ∙ ap (λ n. record { answer = Ok n; world = with_runner (run_of s k l) ws (record { place = home (mine n); own = mine n; halted = false; operation = record { last = n; contents = undecided x }; placing = no_placing s }) }) {x = s.first - 1 + 1} {y = s.first} (omega (arith, f.numbered))
 
 pub start_performed : (ws : List ℕ) (s : Setting) (k : ℕ) (l : Entries) → Runs (run_of s k l) → refusal_of (opened (shut ws) s) (starts k l) ≡ None
-    → perform (opened (shut ws) s) (starts k l) ≡ record { answer = Ok s.first; world = lone (run_of s k l) ws (Begin (own_mark (run_of s k l))) state.Undecided (no_placing s) }
+    → perform (opened (shut ws) s) (starts k l) ≡ record { answer = Ok s.first; world = lone (run_of s k l) ws (Begin (own_mark (run_of s k l))) None (no_placing s) }
 start_performed ws s k l f g =
     perform_granted (opened (shut ws) s) (starts k l) g ∙ first_started ws s k l (λ n. own.List (record { core = k; number = n })) (Some l) f

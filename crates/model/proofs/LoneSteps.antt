@@ -8,13 +8,11 @@ use Rattle.word.specs.Word.{reading_of, raw_of}
 use Rattle.bank.specs.Bank.{swapped}
 use Rattle.entries.specs.declared.Entry.{Entry}
 use Rattle.descriptor.specs.declared.Descriptor.{Descriptor}
-use Rattle.descriptor.specs.declared.contents.State.{State}
-use Rattle.descriptor.specs.declared.contents.State.TheVariants as state
 use Rattle.descriptor.specs.declared.contents.Outcome.{Outcome}
 use Rattle.descriptor.specs.declared.contents.Outcome.TheVariants as outcome
 use Rattle.descriptor.specs.declared.contents.Placing.{Placing}
 use Rattle.descriptor.specs.Descriptors.{last_number, creation}
-use Rattle.descriptor.specs.Contents.{count_of, entry_in, state_of}
+use Rattle.descriptor.specs.Contents.{count_of, entry_in, State}
 use Rattle.cores.specs.declared.place.Work.{Work}
 use Rattle.cores.specs.declared.place.Then.{Then}
 use Rattle.cores.specs.declared.place.Then.TheVariants as then
@@ -65,15 +63,15 @@ swap_keeps ws i old new ne = grind (arith, nat_tests)
 entry_there : (r : Run) (i : ℕ) → i < run_length r → entry_in (Some r.list) i ≡ Some (run_entry r i)
 entry_there r i l = cond-true (ltb i (run_length r)) _ _ (lt-ltb i (run_length r) l)
 
-pub begins : (r : Run) → Runs r → (ws : List ℕ) (d : Descriptor Placing) → Working r (lone r ws (Begin (own_mark r)) state.Undecided d) (lone r ws (Fetch (run_work r 0)) state.Undecided d)
+pub begins : (r : Run) → Runs r → (ws : List ℕ) (d : Descriptor Placing) → Working r (lone r ws (Begin (own_mark r)) None d) (lone r ws (Fetch (run_work r 0)) None d)
 begins r f ws d =
-    works_to r f ws (Begin (own_mark r)) state.Undecided d ws (Fetch (run_work r 0)) state.Undecided d refl refl refl refl refl
-    (ap (λ x. through_mark x (Begin (own_mark r)) (λ o. after_begin (own_mark r) (count_of o.list) o.state)) (operation_here r f ws (Begin (own_mark r)) state.Undecided d))
+    works_to r f ws (Begin (own_mark r)) None d ws (Fetch (run_work r 0)) None d refl refl refl refl refl
+    (ap (λ x. through_mark x (Begin (own_mark r)) (λ o. after_begin (own_mark r) (count_of o.list) o.state)) (operation_here r f ws (Begin (own_mark r)) None d))
 
-pub fetches : (r : Run) → Runs r → (ws : List ℕ) (d : Descriptor Placing) (i : ℕ) → i < run_length r → Working r (lone r ws (Fetch (run_work r i)) state.Undecided d) (lone r ws (Make (run_work r i) (run_entry r i)) state.Undecided d)
+pub fetches : (r : Run) → Runs r → (ws : List ℕ) (d : Descriptor Placing) (i : ℕ) → i < run_length r → Working r (lone r ws (Fetch (run_work r i)) None d) (lone r ws (Make (run_work r i) (run_entry r i)) None d)
 fetches r f ws d i l =
-    works_to r f ws (Fetch (run_work r i)) state.Undecided d ws (Make (run_work r i) (run_entry r i)) state.Undecided d refl refl refl refl refl
-    (ap (λ x. through_mark x (Begin (own_mark r)) (λ o. by_sight (entry_in o.list i) (Fetch (run_work r i)) (Make (run_work r i)))) (operation_here r f ws (Fetch (run_work r i)) state.Undecided d)
+    works_to r f ws (Fetch (run_work r i)) None d ws (Make (run_work r i) (run_entry r i)) None d refl refl refl refl refl
+    (ap (λ x. through_mark x (Begin (own_mark r)) (λ o. by_sight (entry_in o.list i) (Fetch (run_work r i)) (Make (run_work r i)))) (operation_here r f ws (Fetch (run_work r i)) None d)
     ∙ ap (λ x. by_sight x (Fetch (run_work r i)) (Make (run_work r i))) (entry_there r i l))
 
 -- the contents of the placing descriptor for an entry
@@ -88,58 +86,58 @@ abbrev pub placing_mark : Run → Descriptor Placing → Mark
 placing_mark r d = record { core = r.core; number = d.last }
 
 pub makes_mark : (r : Run) → Runs r → (ws : List ℕ) (d : Descriptor Placing) (i : ℕ) (e : Entry) → d.last < last_number
-    → Working r (lone r ws (Make (run_work r i) e) state.Undecided d) (lone r ws (Try (run_work r i) e (placing_mark r (made_for r e d))) state.Undecided (made_for r e d))
+    → Working r (lone r ws (Make (run_work r i) e) None d) (lone r ws (Try (run_work r i) e (placing_mark r (made_for r e d))) None (made_for r e d))
 makes_mark r f ws d i e l =
-    works_to r f ws (Make (run_work r i) e) state.Undecided d ws (Try (run_work r i) e (placing_mark r (made_for r e d))) state.Undecided (made_for r e d) refl refl refl
+    works_to r f ws (Make (run_work r i) e) None d ws (Try (run_work r i) e (placing_mark r (made_for r e d))) None (made_for r e d) refl refl refl
     (lt-leb last_number d.last l)
-    (made r f ws (Make (run_work r i) e) state.Undecided d (placing_for r e) ∙ ap (λ x. lone r ws (Make (run_work r i) e) state.Undecided x) (cond-true (ltb d.last last_number) _ _ (lt-ltb d.last last_number l)))
-    (ap (λ (c : Core). after_make r.core (run_work r i) e (creation c.placing)) (runner_at r f ws (runner r (Make (run_work r i) e) state.Undecided d))
+    (made r f ws (Make (run_work r i) e) None d (placing_for r e) ∙ ap (λ x. lone r ws (Make (run_work r i) e) None x) (cond-true (ltb d.last last_number) _ _ (lt-ltb d.last last_number l)))
+    (ap (λ (c : Core). after_make r.core (run_work r i) e (creation c.placing)) (runner_at r f ws (runner r (Make (run_work r i) e) None d))
     ∙ ap (after_make r.core (run_work r i) e) (cond-true (ltb d.last last_number) _ _ (lt-ltb d.last last_number l)))
 
 -- Try, where the word holds the expected value
 pub places : (r : Run) → Runs r → (ws : List ℕ) (d : Descriptor Placing) (t : Work) (e : Entry) (m : Mark) → e.word < length ws → get_or ws e.word 0 ≡ raw_of (word.Plain e.expected) → reading_of (get_or ws e.word 0) ≡ word.Plain e.expected
-    → Working r (lone r ws (Try t e m) state.Undecided d) (lone r (set ws e.word (raw_of (word.Placing m))) (Settle m settling.Read (then.Next t)) state.Undecided d)
+    → Working r (lone r ws (Try t e m) None d) (lone r (set ws e.word (raw_of (word.Placing m))) (Settle m settling.Read (then.Next t)) None d)
 places r f ws d t e m l raw says =
-    works_to r f ws (Try t e m) state.Undecided d (set ws e.word (raw_of (word.Placing m))) (Settle m settling.Read (then.Next t)) state.Undecided d refl refl refl refl
-    (ap (λ x. lone r x (Try t e m) state.Undecided d) (swap_stores ws e.word (raw_of (word.Plain e.expected)) (raw_of (word.Placing m)) l raw))
+    works_to r f ws (Try t e m) None d (set ws e.word (raw_of (word.Placing m))) (Settle m settling.Read (then.Next t)) None d refl refl refl refl
+    (ap (λ x. lone r x (Try t e m) None d) (swap_stores ws e.word (raw_of (word.Plain e.expected)) (raw_of (word.Placing m)) l raw))
     (ap (λ x. by_sight x (Try t e m) (after_try t e m)) (word_there ws e.word (word.Plain e.expected) l says)
     ∙ cond-true (eqb e.expected e.expected) _ _ (eq-eqb e.expected e.expected refl))
 
 -- Try, where it holds another value
 pub differs : (r : Run) → Runs r → (ws : List ℕ) (d : Descriptor Placing) (t : Work) (e : Entry) (m : Mark) (v : ℕ) → e.word < length ws → (get_or ws e.word 0 ≡ raw_of (word.Plain e.expected) → ⊥) → reading_of (get_or ws e.word 0) ≡ word.Plain v → (v ≡ e.expected → ⊥)
-    → Working r (lone r ws (Try t e m) state.Undecided d) (lone r ws (Decide t (outcome.Failed t.index)) state.Undecided d)
+    → Working r (lone r ws (Try t e m) None d) (lone r ws (Decide t (outcome.Failed t.index)) None d)
 differs r f ws d t e m v l raw says ne =
-    works_to r f ws (Try t e m) state.Undecided d ws (Decide t (outcome.Failed t.index)) state.Undecided d refl refl refl refl
-    (ap (λ x. lone r x (Try t e m) state.Undecided d) (swap_keeps ws e.word (raw_of (word.Plain e.expected)) (raw_of (word.Placing m)) raw))
+    works_to r f ws (Try t e m) None d ws (Decide t (outcome.Failed t.index)) None d refl refl refl refl
+    (ap (λ x. lone r x (Try t e m) None d) (swap_keeps ws e.word (raw_of (word.Plain e.expected)) (raw_of (word.Placing m)) raw))
     (ap (λ x. by_sight x (Try t e m) (after_try t e m)) (word_there ws e.word (word.Plain v) l says)
     ∙ cond-false (eqb v e.expected) _ _ (ne_eqb v e.expected ne))
 
 -- Settle of the core's own mark, where its operation is undecided
 pub reads_placing : (r : Run) → Runs r → (ws : List ℕ) (d : Descriptor Placing) (k : Then)
-    → Working r (lone r ws (Settle (placing_mark r d) settling.Read k) state.Undecided d) (lone r ws (Settle (placing_mark r d) (settling.State d.contents) k) state.Undecided d)
+    → Working r (lone r ws (Settle (placing_mark r d) settling.Read k) None d) (lone r ws (Settle (placing_mark r d) (settling.State d.contents) k) None d)
 reads_placing r f ws d k =
-    works_to r f ws (Settle (placing_mark r d) settling.Read k) state.Undecided d ws (Settle (placing_mark r d) (settling.State d.contents) k) state.Undecided d refl refl refl refl refl
-    (ap (λ x. through_mark x (resume k) (λ p. Settle (placing_mark r d) (settling.State p) k)) (placing_here r f ws (Settle (placing_mark r d) settling.Read k) state.Undecided d))
+    works_to r f ws (Settle (placing_mark r d) settling.Read k) None d ws (Settle (placing_mark r d) (settling.State d.contents) k) None d refl refl refl refl refl
+    (ap (λ x. through_mark x (resume k) (λ p. Settle (placing_mark r d) (settling.State p) k)) (placing_here r f ws (Settle (placing_mark r d) settling.Read k) None d))
 
 pub reads_state : (r : Run) → Runs r → (ws : List ℕ) (d : Descriptor Placing) (m : Mark) (e : Entry) (k : Then)
-    → Working r (lone r ws (Settle m (settling.State (placing_for r e)) k) state.Undecided d) (lone r ws (Settle m (settling.Swap (placing_for r e) true) k) state.Undecided d)
+    → Working r (lone r ws (Settle m (settling.State (placing_for r e)) k) None d) (lone r ws (Settle m (settling.Swap (placing_for r e) true) k) None d)
 reads_state r f ws d m e k =
-    works_to r f ws (Settle m (settling.State (placing_for r e)) k) state.Undecided d ws (Settle m (settling.Swap (placing_for r e) true) k) state.Undecided d refl refl refl refl refl
-    (ap (λ x. through_mark x (Settle m (settling.Swap (placing_for r e) false) k) (λ o. Settle m (settling.Swap (placing_for r e) (is_undecided o.state)) k)) (operation_here r f ws (Settle m (settling.State (placing_for r e)) k) state.Undecided d))
+    works_to r f ws (Settle m (settling.State (placing_for r e)) k) None d ws (Settle m (settling.Swap (placing_for r e) true) k) None d refl refl refl refl refl
+    (ap (λ x. through_mark x (Settle m (settling.Swap (placing_for r e) false) k) (λ o. Settle m (settling.Swap (placing_for r e) (is_undecided o.state)) k)) (operation_here r f ws (Settle m (settling.State (placing_for r e)) k) None d))
 
 pub settles : (r : Run) → Runs r → (ws : List ℕ) (d : Descriptor Placing) (m : Mark) (e : Entry) (k : Then) → is_finished (resume k) ≡ false → e.word < length ws → get_or ws e.word 0 ≡ raw_of (word.Placing m)
-    → Working r (lone r ws (Settle m (settling.Swap (placing_for r e) true) k) state.Undecided d) (lone r (set ws e.word (raw_of (word.Operation (own_mark r)))) (resume k) state.Undecided d)
+    → Working r (lone r ws (Settle m (settling.Swap (placing_for r e) true) k) None d) (lone r (set ws e.word (raw_of (word.Operation (own_mark r)))) (resume k) None d)
 settles r f ws d m e k on l raw =
-    works_to r f ws (Settle m (settling.Swap (placing_for r e) true) k) state.Undecided d (set ws e.word (raw_of (word.Operation (own_mark r)))) (resume k) state.Undecided d on refl refl refl
-    (ap (λ x. lone r x (Settle m (settling.Swap (placing_for r e) true) k) state.Undecided d) (swap_stores ws e.word (raw_of (word.Placing m)) (raw_of (word.Operation (own_mark r))) l raw))
+    works_to r f ws (Settle m (settling.Swap (placing_for r e) true) k) None d (set ws e.word (raw_of (word.Operation (own_mark r)))) (resume k) None d on refl refl refl
+    (ap (λ x. lone r x (Settle m (settling.Swap (placing_for r e) true) k) None d) (swap_stores ws e.word (raw_of (word.Placing m)) (raw_of (word.Operation (own_mark r))) l raw))
     (ap (λ x. by_sight x (Settle m (settling.Swap (placing_for r e) true) k) (λ seen. resume k)) (word_there ws e.word (reading_of (get_or ws e.word 0)) l refl))
 
 pub decides_outcome : (r : Run) → Runs r → (ws : List ℕ) (d : Descriptor Placing) (i : ℕ) (o : Outcome)
-    → Working r (lone r ws (Decide (run_work r i) o) state.Undecided d) (lone r ws (Clear (run_work r 0) o clearing.Read) (state_of o) d)
+    → Working r (lone r ws (Decide (run_work r i) o) None d) (lone r ws (Clear (run_work r 0) o clearing.Read) (Some o) d)
 decides_outcome r f ws d i o =
-    works_to r f ws (Decide (run_work r i) o) state.Undecided d ws (Clear (run_work r 0) o clearing.Read) (state_of o) d refl refl refl refl
-    (settled_outcome r f ws (Decide (run_work r i) o) state.Undecided d o)
-    (ap (λ x. through_mark x (Begin (own_mark r)) (λ p. after_decide (run_work r i) (outcome_after p.state o))) (operation_here r f ws (Decide (run_work r i) o) state.Undecided d))
+    works_to r f ws (Decide (run_work r i) o) None d ws (Clear (run_work r 0) o clearing.Read) (Some o) d refl refl refl refl
+    (settled_outcome r f ws (Decide (run_work r i) o) None d o)
+    (ap (λ x. through_mark x (Begin (own_mark r)) (λ p. after_decide (run_work r i) (outcome_after p.state o))) (operation_here r f ws (Decide (run_work r i) o) None d))
 
 -- Clear
 pub reads_entry : (r : Run) → Runs r → (ws : List ℕ) (s : State) (d : Descriptor Placing) (i : ℕ) (o : Outcome) → i < run_length r

@@ -1,4 +1,4 @@
-use Rattle.std.proofs.Common.{◌≡◌, ℕ, zero, suc, ◌+◌, ◌-◌, ◌*◌, ◌^◌, ◌<◌, ◌≤◌, true, false, eqb, ltb, List, [], ◌∷◌, ◌++◌, length, get_or, set, replicate, Ok, sym, refl, ap, ◌∙◌, subst, append_assoc, arith}
+use Rattle.std.proofs.Common.{◌≡◌, ℕ, zero, suc, ◌+◌, ◌-◌, ◌*◌, ◌^◌, ◌<◌, ◌≤◌, true, false, eqb, ltb, List, [], ◌∷◌, ◌++◌, length, get_or, set, replicate, Some, None, Ok, sym, refl, ap, ◌∙◌, subst, append_assoc, arith}
 use lib.ListN.{replicate-append-replicate}
 use Rattle.std.proofs.lemmas.List.{get_or-set_same, get_or-set_other, set-set, length-set}
 use Rattle.std.proofs.lemmas.Bool.{cond-true, cond-false, cond_both, lt-ltb, le-ltb}
@@ -11,13 +11,11 @@ use Rattle.bank.proofs.Laws.{swaps_of}
 use Rattle.entries.specs.declared.Entry.{Entry}
 use Rattle.entries.proofs.Law.{listed_lawful}
 use Rattle.descriptor.specs.declared.Descriptor.{Descriptor}
-use Rattle.descriptor.specs.declared.contents.State.{State}
-use Rattle.descriptor.specs.declared.contents.State.TheVariants as state
 use Rattle.descriptor.specs.declared.contents.Outcome.{Outcome}
 use Rattle.descriptor.specs.declared.contents.Outcome.TheVariants as outcome
 use Rattle.descriptor.specs.declared.contents.Placing.{Placing}
 use Rattle.descriptor.specs.Descriptors.{last_number}
-use Rattle.descriptor.specs.Contents.{state_of}
+use Rattle.descriptor.specs.Contents.{State}
 use Rattle.cores.specs.declared.place.Work.{Work}
 use Rattle.cores.specs.declared.place.Then.TheVariants as then
 use Rattle.cores.specs.declared.place.Clearing.TheVariants as clearing
@@ -124,17 +122,17 @@ unfinished_next t = cond_both (ltb (t.index + 1) t.count) _ _ (λ p. is_finished
 
 pub entry_placed : (r : Run) → Runs r → (ws : List ℕ) (d : Descriptor Placing) (i : ℕ) (p : Place) → i < run_length r → d.last < last_number → (run_entry r i).word < length ws
     → get_or ws (run_entry r i).word 0 ≡ raw_of (word.Plain (run_entry r i).expected) → next_entry (run_work r i) ≡ p
-    → Works r 6 (lone r ws (Fetch (run_work r i)) state.Undecided d) (lone r (set ws (run_entry r i).word (raw_of (word.Operation (own_mark r)))) p state.Undecided (made_for r (run_entry r i) d))
+    → Works r 6 (lone r ws (Fetch (run_work r i)) None d) (lone r (set ws (run_entry r i).word (raw_of (word.Operation (own_mark r)))) p None (made_for r (run_entry r i) d))
 entry_placed r f ws d i p l left there raw next =
     let e : Entry = run_entry r i in
     let d' : Descriptor Placing = made_for r e d in
     let placed : List ℕ = set ws e.word (raw_of (word.Placing (placing_mark r d'))) in
     let says : reading_of (get_or ws e.word 0) ≡ word.Plain e.expected = written_back (word.Plain e.expected) (get_or ws e.word 0) raw ((listed_lawful r.list).expected_fits i l) in
-    let settled : Works r 1 (lone r placed (Settle (placing_mark r d') (settling.Swap (placing_for r e) true) (then.Next (run_work r i))) state.Undecided d') (lone r (set placed e.word (raw_of (word.Operation (own_mark r)))) (next_entry (run_work r i)) state.Undecided d') =
+    let settled : Works r 1 (lone r placed (Settle (placing_mark r d') (settling.Swap (placing_for r e) true) (then.Next (run_work r i))) None d') (lone r (set placed e.word (raw_of (word.Operation (own_mark r)))) (next_entry (run_work r i)) None d') =
     step_works r 0 (settles r f placed d' (placing_mark r d') e (then.Next (run_work r i)) (unfinished_next (run_work r i)) (rw length-set there) (get_or-set_same ws e.word (raw_of (word.Placing (placing_mark r d'))) 0 there)) (none_works r _) in
-    let tidied : Works r 1 (lone r placed (Settle (placing_mark r d') (settling.Swap (placing_for r e) true) (then.Next (run_work r i))) state.Undecided d') (lone r (set ws e.word (raw_of (word.Operation (own_mark r)))) p state.Undecided d') =
-    subst (λ q. Works r 1 (lone r placed (Settle (placing_mark r d') (settling.Swap (placing_for r e) true) (then.Next (run_work r i))) state.Undecided d') (lone r (set ws e.word (raw_of (word.Operation (own_mark r)))) q state.Undecided d')) next
-    (subst (λ xs. Works r 1 (lone r placed (Settle (placing_mark r d') (settling.Swap (placing_for r e) true) (then.Next (run_work r i))) state.Undecided d') (lone r xs (next_entry (run_work r i)) state.Undecided d')) (set-set ws e.word (raw_of (word.Placing (placing_mark r d'))) (raw_of (word.Operation (own_mark r)))) settled) in
+    let tidied : Works r 1 (lone r placed (Settle (placing_mark r d') (settling.Swap (placing_for r e) true) (then.Next (run_work r i))) None d') (lone r (set ws e.word (raw_of (word.Operation (own_mark r)))) p None d') =
+    subst (λ q. Works r 1 (lone r placed (Settle (placing_mark r d') (settling.Swap (placing_for r e) true) (then.Next (run_work r i))) None d') (lone r (set ws e.word (raw_of (word.Operation (own_mark r)))) q None d')) next
+    (subst (λ xs. Works r 1 (lone r placed (Settle (placing_mark r d') (settling.Swap (placing_for r e) true) (then.Next (run_work r i))) None d') (lone r xs (next_entry (run_work r i)) None d')) (set-set ws e.word (raw_of (word.Placing (placing_mark r d'))) (raw_of (word.Operation (own_mark r)))) settled) in
     step_works r 5 (fetches r f ws d i l)
     (step_works r 4 (makes_mark r f ws d i e left)
     (step_works r 3 (places r f ws d' (run_work r i) e (placing_mark r d') there raw says)
@@ -148,7 +146,7 @@ pub record AllPlaced (r : Run) (n : ℕ) (ws : List ℕ) (w : World) : Type 0 wh
   pub last : ℕ
   pub kept : length words ≡ length ws
   pub unplaced : Unplaced words
-  pub works : Works r n w (lone r words (Decide (run_work r last) outcome.Succeeded) state.Undecided placing)
+  pub works : Works r n w (lone r words (Decide (run_work r last) outcome.Succeeded) None placing)
 
 -- the six steps of one more entry first
 placed_on : {w v : World} (r : Run) (n : ℕ) (ws ws' : List ℕ) → length ws' ≡ length ws → Works r 6 w v → AllPlaced r n ws' v → AllPlaced r (6 + n) ws w
@@ -169,7 +167,7 @@ match_later r ws i v h j l m =
     get_or-set_other ws (run_entry r i).word (run_entry r j).word v 0 (λ q. omega arith) ∙ h j (omega arith) m
 
 pub all_placed : (r : Run) → Runs r → (left i : ℕ) → i + left + 1 ≡ run_length r → (ws : List ℕ) (d : Descriptor Placing) → d.last + left < last_number
-    → Within r ws → Unplaced ws → MatchFrom r ws i → AllPlaced r (6 * (left + 1)) ws (lone r ws (Fetch (run_work r i)) state.Undecided d)
+    → Within r ws → Unplaced ws → MatchFrom r ws i → AllPlaced r (6 * (left + 1)) ws (lone r ws (Fetch (run_work r i)) None d)
 all_placed r f zero i n ws d numbers within unplaced match =
     record {
       words = set ws (run_entry r i).word (raw_of (word.Operation (own_mark r)));
@@ -182,15 +180,15 @@ all_placed r f zero i n ws d numbers within unplaced match =
 all_placed r f (suc left) i n ws d numbers within unplaced match =
     let ws' : List ℕ = set ws (run_entry r i).word (raw_of (word.Operation (own_mark r))) in
     let d' : Descriptor Placing = made_for r (run_entry r i) d in
-    let first : Works r 6 (lone r ws (Fetch (run_work r i)) state.Undecided d) (lone r ws' (Fetch (run_work r (i + 1))) state.Undecided d') =
+    let first : Works r 6 (lone r ws (Fetch (run_work r i)) None d) (lone r ws' (Fetch (run_work r (i + 1))) None d') =
     entry_placed r f ws d i (Fetch (run_work r (i + 1))) (omega arith) (omega arith) (within i (omega arith)) (match i (omega arith) (omega arith)) (cond-true (ltb (i + 1) (run_length r)) _ _ (lt-ltb (i + 1) (run_length r) (omega arith))) in
-    let rest : AllPlaced r (6 * (left + 1)) ws' (lone r ws' (Fetch (run_work r (i + 1))) state.Undecided d') =
+    let rest : AllPlaced r (6 * (left + 1)) ws' (lone r ws' (Fetch (run_work r (i + 1))) None d') =
     all_placed r f left (i + 1) (omega arith) ws' d' (omega arith)
     (λ j l. rw length-set (within j l))
     (stored_unplaced r f ws (run_entry r i).word unplaced)
     (match_later r ws i (raw_of (word.Operation (own_mark r))) match) in
     let count : 6 + 6 * (left + 1) ≡ 6 * (suc left + 1) = omega arith in
-    subst (λ a. AllPlaced r a ws (lone r ws (Fetch (run_work r i)) state.Undecided d)) count
+    subst (λ a. AllPlaced r a ws (lone r ws (Fetch (run_work r i)) None d)) count
     (placed_on r (6 * (left + 1)) ws ws' (length-set ws (run_entry r i).word (raw_of (word.Operation (own_mark r)))) first rest)
 
 -- Clearing: two steps of each entry whatever comes after, and the third to the next entry or to the end.
@@ -232,27 +230,27 @@ all_cleared r f (suc left) i n ws s d o within unplaced =
     (works_ends r 3 (3 * left + 2) (answer_of o) (works_on r 2 1 (entry_loaded r f ws s d i o (omega arith) within unplaced) swap) rest)
 
 -- A run from a decision to its end.
-pub decided_ends : (r : Run) → Runs r → (ws : List ℕ) (d : Descriptor Placing) (i : ℕ) (o : Outcome) → Within r ws → Unplaced ws → Ends r (3 * run_length r) (lone r ws (Decide (run_work r i) o) state.Undecided d) (answer_of o)
+pub decided_ends : (r : Run) → Runs r → (ws : List ℕ) (d : Descriptor Placing) (i : ℕ) (o : Outcome) → Within r ws → Unplaced ws → Ends r (3 * run_length r) (lone r ws (Decide (run_work r i) o) None d) (answer_of o)
 decided_ends r f ws d i o within unplaced =
     let some : 1 ≤ run_length r = (listed_lawful r.list).some in
     let count : 1 + (3 * (run_length r - 1) + 2) ≡ 3 * run_length r = omega arith in
-    subst (λ n. Ends r n (lone r ws (Decide (run_work r i) o) state.Undecided d) (answer_of o)) count
-    (works_ends r 1 (3 * (run_length r - 1) + 2) (answer_of o) (step_works r 0 (decides_outcome r f ws d i o) (none_works r _)) (all_cleared r f (run_length r - 1) 0 (omega arith) ws (state_of o) d o within unplaced))
+    subst (λ n. Ends r n (lone r ws (Decide (run_work r i) o) None d) (answer_of o)) count
+    (works_ends r 1 (3 * (run_length r - 1) + 2) (answer_of o) (step_works r 0 (decides_outcome r f ws d i o) (none_works r _)) (all_cleared r f (run_length r - 1) 0 (omega arith) ws (Some o) d o within unplaced))
 
 placed_ends : {w : World} (r : Run) → Runs r → (n : ℕ) (ws : List ℕ) → Within r ws → AllPlaced r n ws w → Ends r (n + 3 * run_length r) w 0
 placed_ends r f n ws within placed =
     works_ends r n (3 * run_length r) 0 placed.works
     (decided_ends r f placed.words placed.placing placed.last outcome.Succeeded (λ j m. omega (arith, within j m, placed.kept)) placed.unplaced)
 
-pub begun : (r : Run) → Runs r → (ws : List ℕ) (d : Descriptor Placing) → Works r 1 (lone r ws (Begin (own_mark r)) state.Undecided d) (lone r ws (Fetch (run_work r 0)) state.Undecided d)
+pub begun : (r : Run) → Runs r → (ws : List ℕ) (d : Descriptor Placing) → Works r 1 (lone r ws (Begin (own_mark r)) None d) (lone r ws (Fetch (run_work r 0)) None d)
 begun r f ws d = step_works r 0 (begins r f ws d) (none_works r _)
 
 -- The whole run, where every entry matches.
 pub matched_ends : (r : Run) → Runs r → (ws : List ℕ) (d : Descriptor Placing) → d.last + run_length r ≤ last_number → Within r ws → Unplaced ws → MatchFrom r ws 0
-    → Ends r (1 + 9 * run_length r) (lone r ws (Begin (own_mark r)) state.Undecided d) 0
+    → Ends r (1 + 9 * run_length r) (lone r ws (Begin (own_mark r)) None d) 0
 matched_ends r f ws d numbers within unplaced match =
     let some : 1 ≤ run_length r = (listed_lawful r.list).some in
     let count : 1 + (6 * (run_length r - 1 + 1) + 3 * run_length r) ≡ 1 + 9 * run_length r = omega arith in
-    subst (λ n. Ends r n (lone r ws (Begin (own_mark r)) state.Undecided d) 0) count
+    subst (λ n. Ends r n (lone r ws (Begin (own_mark r)) None d) 0) count
     (works_ends r 1 (6 * (run_length r - 1 + 1) + 3 * run_length r) 0 (begun r f ws d)
     (placed_ends r f (6 * (run_length r - 1 + 1)) ws within (all_placed r f (run_length r - 1) 0 (omega arith) ws d (omega arith) within unplaced match)))

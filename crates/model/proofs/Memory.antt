@@ -1,16 +1,14 @@
-use Rattle.std.proofs.Common.{ℕ, ◌+◌, cond, eqb, List, get_or}
+use Rattle.std.proofs.Common.{ℕ, ◌+◌, cond, eqb, List, get_or, None}
 use Rattle.word.specs.declared.Mark.{Mark}
 use Rattle.word.specs.declared.Word.{Word}
 use Rattle.word.specs.Word.{reading_of}
 use Rattle.entries.specs.declared.Entry.{Entry}
 use Rattle.entries.specs.Lists.{entry_at}
-use Rattle.descriptor.specs.declared.contents.State.{State}
-use Rattle.descriptor.specs.declared.contents.State.TheVariants as state
 use Rattle.descriptor.specs.declared.contents.Placing.{Placing}
 use Rattle.cores.specs.declared.place.Place.{Place}
 use Rattle.cores.specs.declared.place.Own.{Own}
 use Rattle.model.specs.World.{World, core_at}
-use Rattle.descriptor.specs.Contents.{entries_of}
+use Rattle.descriptor.specs.Contents.{entries_of, State}
 
 -- The world as the proofs see it: what its words say and what its cores keep, as functions of the number. What a change leaves
 -- untouched is then equal by computation.
@@ -56,7 +54,7 @@ fresh_pl w c d = record { word = w.word; num = w.num; ents = w.ents; state = w.s
 
 -- core c creates its operation descriptor with these entries, and runs that
 abbrev pub fresh_op : Memory → ℕ → List Entry → Own → Memory
-fresh_op w c es o = record { word = w.word; num = upd w.num c (w.num c + 1); ents = upd w.ents c es; state = upd w.state c state.Undecided; pnum = w.pnum; pl = w.pl; place = w.place; own = upd w.own c o }
+fresh_op w c es o = record { word = w.word; num = upd w.num c (w.num c + 1); ents = upd w.ents c es; state = upd w.state c None; pnum = w.pnum; pl = w.pl; place = w.place; own = upd w.own c o }
 
 -- core c runs nothing any more
 abbrev pub disown : Memory → ℕ → Own → Memory

@@ -7,11 +7,9 @@ use Rattle.word.specs.declared.Word.TheVariants as word
 use Rattle.entries.specs.declared.Entry.{Entry}
 use Rattle.entries.specs.declared.list.Entries.{Entries}
 use Rattle.entries.specs.Listed.{listed}
-use Rattle.descriptor.specs.declared.contents.State.{State}
-use Rattle.descriptor.specs.declared.contents.State.TheVariants as state
 use Rattle.descriptor.specs.declared.contents.Outcome.{Outcome}
 use Rattle.descriptor.specs.declared.contents.Outcome.TheVariants as outcome
-use Rattle.descriptor.specs.Contents.{state_of}
+use Rattle.descriptor.specs.Contents.{State}
 use Rattle.cores.specs.declared.place.Work.{Work}
 use Rattle.cores.specs.declared.place.Clearing.TheVariants as clearing
 use Rattle.cores.specs.declared.place.Place.{Place}
@@ -59,12 +57,12 @@ pub record Ordered (h : History) (t : ℕ) : Type 0 where
 shown_start : (a : Memory) (k : ℕ) (es : List Entry) (o : Own) → Inv a → a.place k ≡ Idle → shown_in (fresh_op a k es o) ≡ shown_in a
 shown_start a k es o inv idle = fun_ext (λ i. by i (a.word i) (inv.words i))
   where
-    by : (i : ℕ) (x : Word) → WordOk a i x → shown_of a.pl (upd a.state k state.Undecided) (upd a.ents k es) i x ≡ shown_says a i x
+    by : (i : ℕ) (x : Word) → WordOk a i x → shown_of a.pl (upd a.state k None) (upd a.ents k es) i x ≡ shown_says a i x
     by i (word.Plain v) h = refl
     by i (word.Placing m) h = refl
     by i (word.Operation T) h =
         let ne : T.core ≡ k → ⊥ = λ q. true≢false (rw (q, idle) at h.1.3) in
-        rw (upd_other a.state k T.core state.Undecided ne, upd_other a.ents k T.core es ne)
+        rw (upd_other a.state k T.core None ne, upd_other a.ents k T.core es ne)
     by i (word.Foreign n) h = refl
 
 module _ (h : History) (t : ℕ) (lt : t < length h.calls) (g : Ordered h t) where
@@ -123,8 +121,8 @@ module _ (h : History) (t : ℕ) (lt : t < length h.calls) (g : Ordered h t) whe
     linearization = linearization_stays h f t g.linearization (ap shown_in eq ∙ shown_start a k es o inv idle);
     covers = covers_next h f f t g.covers (λ _ _ e. e)
         (λ q c n x l called m d. ⊎_elim
-        (λ (z : c ≡ k). absurd (not_undecided d.outcome (sym d.state ∙ ap (λ (y : Memory). y.state c) eq ∙ upd_at a.state k c state.Undecided z)))
-        (λ (z : c ≡ k → ⊥). inr (start_before q c n l called m (λ s. z (only c _ s)), decided_back c n x (ap (λ (y : Memory). y.num c) eq ∙ upd_other a.num k c (a.num k + 1) z) (ap (λ (y : Memory). y.state c) eq ∙ upd_other a.state k c state.Undecided z) d)) (cases_eq c k))
+        (λ (z : c ≡ k). absurd (not_undecided d.outcome (sym d.state ∙ ap (λ (y : Memory). y.state c) eq ∙ upd_at a.state k c None z)))
+        (λ (z : c ≡ k → ⊥). inr (start_before q c n l called m (λ s. z (only c _ s)), decided_back c n x (ap (λ (y : Memory). y.num c) eq ∙ upd_other a.num k c (a.num k + 1) z) (ap (λ (y : Memory). y.state c) eq ∙ upd_other a.state k c None z) d)) (cases_eq c k))
         (λ q c n i called fin. absurd (unstepped c fin.finishing_step));
     cores = subst (Cores h f (upd p k t) (t + 1)) (sym eq) (cores_start h t f p a k es o pl g.cores g.linearization inv start plain only unstepped);
   }
@@ -313,7 +311,7 @@ module _ (h : History) (t : ℕ) (lt : t < length h.calls) (g : Ordered h t) whe
 
     -- An operation is decided.
     module _ (w : Work) (o : Outcome) (here : a.place k ≡ Decide w o) (cur : Current a w.operation) (und : Undecided a w.operation)
-        (eq : a' ≡ move (settled a w.operation.core (state_of o)) k (Clear (first_entry w.operation w.count) o clearing.Read)) where
+        (eq : a' ≡ move (settled a w.operation.core (Some o)) k (Clear (first_entry w.operation w.count) o clearing.Read)) where
       abbrev c : ℕ
       c = w.operation.core
 
@@ -335,8 +333,8 @@ module _ (h : History) (t : ℕ) (lt : t < length h.calls) (g : Ordered h t) whe
       started : (M : Mark) × (a.own c ≡ own.List M) × (l : Entries) × Called h (p c) (starts c l) (Ok (a.num c)) × (listed l ≡ a.ents c)
       started = of_list (a.own c) (inv.owns c) run.start
 
-      decided_now : a'.state c ≡ state_of o
-      decided_now = ap (λ (y : Memory). y.state c) eq ∙ upd_same a.state c (state_of o)
+      decided_now : a'.state c ≡ Some o
+      decided_now = ap (λ (y : Memory). y.state c) eq ∙ upd_same a.state c (Some o)
 
       resting : Active a' c → ⊥
       resting z =
@@ -351,18 +349,18 @@ module _ (h : History) (t : ℕ) (lt : t < length h.calls) (g : Ordered h t) whe
           adds c s (record { start_of = p c; core_of = c; what = swap_all (listed l); answered = answer_of o }) act resting refl refl
           (decided (a.num c) (answer_of o) (t + 1) started.3 (omega (arith, run.before)) (omega arith) (record { current = same_num c; outcome = o; state = decided_now; answer = refl }))
           le later free (subst (λ (es : List Entry). Done (swap_all es) (values h s) (answer_of o) (values h (s + 1))) (sym started.4) done) same
-          (λ j n. ap (λ (y : Memory). y.state j) eq ∙ upd_other a.state c j (state_of o) n)
+          (λ j n. ap (λ (y : Memory). y.state j) eq ∙ upd_other a.state c j (Some o) n)
           (λ q c' n x l' called z dec. inl (one_start h q (p c) c n (starts c l') (starts c l) refl refl (subst (λ (y : ℕ). Called h q (starts y l') (Ok n)) z called)
           (subst (λ (y : ℕ). Called h (p c) (starts c l) (Ok y)) (sym (same_num c) ∙ subst (λ (y : ℕ). a'.num y ≡ n) z dec.current) started.3)))
           (λ q c' n i called fin. absurd (not_finishing (rw goes_clearing) q c' n i called fin))
           (rw goes_clearing) apart
-          (λ j q u. absurd (not_undecided o (sym decided_now ∙ subst (λ (y : ℕ). a'.state y ≡ state.Undecided) q u)))
+          (λ j q u. absurd (not_undecided o (sym decided_now ∙ subst (λ (y : ℕ). a'.state y ≡ None) q u)))
         where
           l : Entries
           l = started.2
 
     succeeds_next : (w : Work) → a.place k ≡ Decide w outcome.Succeeded → Current a w.operation → Undecided a w.operation
-        → a' ≡ move (settled a w.operation.core state.Succeeded) k (Clear (first_entry w.operation w.count) outcome.Succeeded clearing.Read) → Ordered h (t + 1)
+        → a' ≡ move (settled a w.operation.core (Some outcome.Succeeded)) k (Clear (first_entry w.operation w.count) outcome.Succeeded clearing.Read) → Ordered h (t + 1)
     succeeds_next w here cur und eq =
         decided_by w outcome.Succeeded here cur und eq t (le_refl t) (run w outcome.Succeeded here cur und eq).before (g.linearization.later t (le_refl t))
         (subst (Done (swap_all (a.ents w.operation.core)) (values h t) 0) (sym (ap shown_in eq)) (succeeds (all_expected a w.operation inv cur und full) (new_stored a w.operation inv cur und full)))
@@ -375,7 +373,7 @@ module _ (h : History) (t : ℕ) (lt : t < length h.calls) (g : Ordered h t) whe
         full j l = ok.3 cur und j (omega (arith, ok.1 cur))
 
     fails_next : (w : Work) (i : ℕ) → a.place k ≡ Decide w (outcome.Failed i) → Current a w.operation → Undecided a w.operation
-        → a' ≡ move (settled a w.operation.core (state.Failed i)) k (Clear (first_entry w.operation w.count) (outcome.Failed i) clearing.Read) → Ordered h (t + 1)
+        → a' ≡ move (settled a w.operation.core (Some (outcome.Failed i))) k (Clear (first_entry w.operation w.count) (outcome.Failed i) clearing.Read) → Ordered h (t + 1)
     fails_next w i here cur und eq =
         let d = g.cores.pending k w i here cur und in
         let still : values h (d.seen + 1) ≡ values h d.seen = subst (λ (x : Option Completed). Effect x (values h d.seen) (values h (d.seen + 1))) d.free (g.linearization.effects d.seen d.earlier) in

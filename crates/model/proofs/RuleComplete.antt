@@ -5,13 +5,10 @@ use Rattle.word.specs.declared.Word.{Word}
 use Rattle.word.specs.declared.Word.TheVariants as word
 use Rattle.entries.specs.declared.Entry.{Entry}
 use Rattle.descriptor.specs.declared.contents.Operation.{Operation}
-use Rattle.descriptor.specs.declared.contents.State.{State}
-use Rattle.descriptor.specs.declared.contents.State.TheVariants as state
 use Rattle.descriptor.specs.declared.contents.Outcome.{Outcome}
-use Rattle.descriptor.specs.declared.contents.Outcome.TheVariants as outcome
 use Rattle.descriptor.specs.declared.contents.Placing.{Placing}
 use Rattle.descriptor.specs.Descriptors.{last_number}
-use Rattle.descriptor.specs.Contents.{entry_in}
+use Rattle.descriptor.specs.Contents.{entry_in, State}
 use Rattle.cores.specs.declared.place.Work.{Work}
 use Rattle.cores.specs.declared.place.Then.{Then}
 use Rattle.cores.specs.declared.place.Clearing.TheVariants as clearing
@@ -59,9 +56,8 @@ looks w k i a free (word.Operation m) s = (_, look_operation a s)
 looks w k i a free (word.Foreign n) s = absurd (free (look_unread a (inr (n, s))))
 
 begins : (w : World) (k : ℕ) (m : Mark) → At w k (Begin m) → (o : Operation) → Current w m o → (x : State) → o.state ≡ x → SomeRule w k
-begins w k m a o c state.Undecided e = (_, begin_undecided a c e)
-begins w k m a o c state.Succeeded e = (_, begin_decided outcome.Succeeded a c e)
-begins w k m a o c (state.Failed i) e = (_, begin_decided (outcome.Failed i) a c e)
+begins w k m a o c None e = (_, begin_undecided a c e)
+begins w k m a o c (Some y) e = (_, begin_decided y a c e)
 
 tries : (w : World) (k : ℕ) (t : Work) (e : Entry) (m : Mark) → At w k (Try t e m) → (Stuck w k → ⊥) → (x : Word) → Sees w e.word x → SomeRule w k
 tries w k t e m a free (word.Plain v) s =
@@ -72,9 +68,8 @@ tries w k t e m a free (word.Operation u) s =
 tries w k t e m a free (word.Foreign n) s = absurd (free (try_unread a (inr (n, s))))
 
 decides : (w : World) (k : ℕ) (t : Work) (x : Outcome) → At w k (Decide t x) → (o : Operation) → Current w t.operation o → (y : State) → o.state ≡ y → SomeRule w k
-decides w k t x a o c state.Undecided e = (_, decide_first a c e)
-decides w k t x a o c state.Succeeded e = (_, decide_later outcome.Succeeded a c e)
-decides w k t x a o c (state.Failed i) e = (_, decide_later (outcome.Failed i) a c e)
+decides w k t x a o c None e = (_, decide_first a c e)
+decides w k t x a o c (Some y) e = (_, decide_later y a c e)
 
 clear_loads : (w : World) (k : ℕ) (t : Work) (x : Outcome) (e : Entry) → At w k (Clear t x (clearing.Load e)) → (y : Word) → Sees w e.word y → SomeRule w k
 clear_loads w k t x e a (word.Plain v) s = (_, clear_load a s (λ m q. grind arith))
@@ -90,9 +85,8 @@ clear_swaps w k t x e a (word.Operation u) s =
 clear_swaps w k t x e a (word.Foreign n) s = (_, clear_misses a s (λ q. grind arith))
 
 settle_states : (w : World) (k : ℕ) (m : Mark) (p : Placing) (j : Then) → At w k (Settle m (settling.State p) j) → (o : Operation) → Current w p.operation o → (y : State) → o.state ≡ y → SomeRule w k
-settle_states w k m p j a o c state.Undecided e = (_, settle_undecided a c e)
-settle_states w k m p j a o c state.Succeeded e = (_, settle_decided a c (λ q. grind arith))
-settle_states w k m p j a o c (state.Failed i) e = (_, settle_decided a c (λ q. grind arith))
+settle_states w k m p j a o c None e = (_, settle_undecided a c e)
+settle_states w k m p j a o c (Some y) e = (_, settle_decided a c (λ q. grind arith))
 
 settle_swaps : (w : World) (k : ℕ) (m : Mark) (p : Placing) (u : Bool) (j : Then) → At w k (Settle m (settling.Swap p u) j) → (y : Word) → Sees w p.word y → SomeRule w k
 settle_swaps w k m p u j a (word.Plain v) s = (_, settle_misses a s (λ q. grind arith))

@@ -1,4 +1,4 @@
-use Rattle.std.proofs.Common.{◌≡◌, ℕ, ◌<◌, Bool, true, false, cond, eqb, ltb, List, Some, Option, Result, sym, refl, ap, ◌∙◌, arith}
+use Rattle.std.proofs.Common.{◌≡◌, ℕ, ◌<◌, Bool, true, false, cond, eqb, ltb, List, Some, None, Option, Result, sym, refl, ap, ◌∙◌, arith}
 use Rattle.std.proofs.lemmas.List.{set-get_or}
 use Rattle.std.proofs.lemmas.Bool.{lt-ltb, eq-eqb, ne_eqb, ltb-true, cond-true, cond-false, cond_both}
 use Rattle.std.proofs.lemmas.Bool.Decides.{nat_tests}
@@ -10,13 +10,10 @@ use Rattle.entries.specs.declared.Entry.{Entry}
 use Rattle.descriptor.specs.declared.Descriptor.{Descriptor}
 use Rattle.descriptor.specs.declared.Overtaken.{Overtaken}
 use Rattle.descriptor.specs.declared.contents.Operation.{Operation}
-use Rattle.descriptor.specs.declared.contents.State.{State}
-use Rattle.descriptor.specs.declared.contents.State.TheVariants as state
 use Rattle.descriptor.specs.declared.contents.Outcome.{Outcome}
-use Rattle.descriptor.specs.declared.contents.Outcome.TheVariants as outcome
 use Rattle.descriptor.specs.declared.contents.Placing.{Placing}
 use Rattle.descriptor.specs.Descriptors.{last_number, changed}
-use Rattle.descriptor.specs.Contents.{count_of, entry_in, state_of, decided, with_outcome}
+use Rattle.descriptor.specs.Contents.{count_of, entry_in, decided, with_outcome, State}
 use Rattle.cores.specs.declared.place.Work.{Work}
 use Rattle.cores.specs.declared.place.Clearing.TheVariants as clearing
 use Rattle.cores.specs.declared.place.Settling.TheVariants as settling
@@ -25,7 +22,7 @@ use Rattle.cores.specs.declared.place.Place.TheVariants.{Look, Fetch, Make, Try,
 use Rattle.cores.specs.declared.table.Core.{Core}
 use Rattle.model.specs.World.{World, core_at, word_at, with_words, with_core, with_cores}
 use Rattle.cores.specs.Cores.{new_core, with_operation, with_placing}
-use Rattle.model.specs.Rules.{by_sight, through_mark, same_mark, first_entry, after_look, after_begin, after_try, after_decide, outcome_after, after_clear_load, after_clear_swap, resume, is_undecided}
+use Rattle.model.specs.Rules.{by_sight, through_mark, same_mark, after_look, after_begin, after_try, after_decide, outcome_after, after_clear_load, after_clear_swap, resume, is_undecided}
 use Rattle.model.specs.Step.{arrive, change_world, swaps, decides, makes, step_change, step_place, step_world, after_make, cleared_to, settled_to}
 use Rattle.model.specs.Relation.{goes, stores, creates, decides_on, At, Sees, Newest, Older, Current, OvertakenOperation, Rule, InRange, look_plain, look_placing, look_operation, begin_undecided, begin_decided, begin_overtaken, fetch, fetch_overtaken, make, try_placed, try_meets_placing, try_meets_own, try_meets_operation, try_differs, decide_first, decide_later, decide_overtaken, clear_read, clear_overtaken, clear_meets_placing, clear_load, clear_takes_out, clear_misses, settle_read, settle_overtaken, settle_undecided, settle_decided, settle_past, settle_replaces, settle_misses}
 use Rattle.model.proofs.Sights.{through, sees_word, newest_reads, older_reads, swap_stores, swap_misses}
@@ -65,18 +62,9 @@ marks_differ a b n = by (same_mark a b) refl
     by true e = let p : a.core ≡ b.core = grind (arith, nat_tests) in let q : a.number ≡ b.number = grind (arith, nat_tests) in absurd (n (λ i. record { core = p i; number = q i }))
     by false e = refl
 
-outcome_kept : (x y : Outcome) → outcome_after (state_of y) x ≡ y
-outcome_kept x outcome.Succeeded = refl
-outcome_kept x (outcome.Failed i) = refl
-
-begun : (m : Mark) (n : ℕ) (x : Outcome) → after_begin m n (state_of x) ≡ Clear (first_entry m n) x clearing.Read
-begun m n outcome.Succeeded = refl
-begun m n (outcome.Failed i) = refl
-
-is_decided : (s : State) → (s ≡ state.Undecided → ⊥) → is_undecided s ≡ false
-is_decided state.Undecided n = absurd (n refl)
-is_decided state.Succeeded n = refl
-is_decided (state.Failed i) n = refl
+is_decided : (s : State) → (s ≡ None → ⊥) → is_undecided s ≡ false
+is_decided None n = absurd (n refl)
+is_decided (Some x) n = refl
 
 cleared_past : (t : Work) (x : Outcome) (e : Entry) (s : Word) → ((m : Mark) → s ≡ word.Placing m → ⊥) → after_clear_load t x e s ≡ Clear t x (clearing.Swap e)
 cleared_past t x e (word.Plain v) n = refl
@@ -110,18 +98,14 @@ changed_older d n x h =
     let old : cond (eqb n d.last) (with_outcome d.contents x) d.contents ≡ d.contents = cond-false _ _ _ (ne_eqb n d.last h) in
     λ i. record { last = d.last; contents = old i }
 
-state_kept : (x y : Outcome) → decided (state_of y) x ≡ state_of y
-state_kept x outcome.Succeeded = refl
-state_kept x (outcome.Failed i) = refl
-
-decided_first : (w : World) (k : ℕ) (m : Mark) (o : Operation) (x : Outcome) → Current w m o → o.state ≡ state.Undecided → change_world w k (decides m x) ≡ decides_on w m o x
+decided_first : (w : World) (k : ℕ) (m : Mark) (o : Operation) (x : Outcome) → Current w m o → o.state ≡ None → change_world w k (decides m x) ≡ decides_on w m o x
 decided_first w k m o x (c, n, e) u =
     cond-true _ _ _ (lt-ltb m.core 8 c) ∙ ap (with_descriptor w m.core) (changed_newest (core_at w m.core).operation m.number o x n e)
     ∙ ap (λ (s : State). with_descriptor w m.core (record { last = m.number; contents = record { list = o.list; state = decided s x } })) u
 
-decided_later : (w : World) (k : ℕ) (m : Mark) (o : Operation) (x y : Outcome) → Current w m o → o.state ≡ state_of y → change_world w k (decides m x) ≡ w
+decided_later : (w : World) (k : ℕ) (m : Mark) (o : Operation) (x y : Outcome) → Current w m o → o.state ≡ Some y → change_world w k (decides m x) ≡ w
 decided_later w k m o x y (c, n, e) u =
-    let s : decided o.state x ≡ o.state = ap (λ (s : State). decided s x) u ∙ state_kept x y ∙ sym u in
+    let s : decided o.state x ≡ o.state = ap (λ (s : State). decided s x) u ∙ sym u in
     let kept : with_outcome o x ≡ o = λ i. record { list = o.list; state = s i } in
     let back : with_outcome o x ≡ (core_at w m.core).operation.contents = kept ∙ sym e in
     cond-true _ _ _ (lt-ltb m.core 8 c) ∙ ap (with_descriptor w m.core) (changed_newest (core_at w m.core).operation m.number o x n e)
@@ -141,7 +125,7 @@ exact_step w k r u _ (look_plain {i = i} {v = v} a s) = comes_to w k w _ a refl 
 exact_step w k r u _ (look_placing {i = i} {m = m} a s) = comes_to w k w _ a refl (seen_word w i (Look i) (after_look i) _ s)
 exact_step w k r u _ (look_operation {i = i} {m = m} a s) = comes_to w k w _ a refl (seen_word w i (Look i) (after_look i) _ s)
 exact_step w k r u _ (begin_undecided {m = m} {o = o} a c e) = comes_to w k w _ a refl (seen_newest _ m _ (λ p. after_begin m (count_of p.list) p.state) o c ∙ ap (after_begin m (count_of o.list)) e)
-exact_step w k r u _ (begin_decided {m = m} {o = o} x a c e) = comes_to w k w _ a refl (seen_newest _ m _ (λ p. after_begin m (count_of p.list) p.state) o c ∙ ap (after_begin m (count_of o.list)) e ∙ begun m (count_of o.list) x)
+exact_step w k r u _ (begin_decided {m = m} {o = o} x a c e) = comes_to w k w _ a refl (seen_newest _ m _ (λ p. after_begin m (count_of p.list) p.state) o c ∙ ap (after_begin m (count_of o.list)) e)
 exact_step w k r u _ (begin_overtaken {m = m} a c) = comes_to w k w _ a refl (seen_older _ m _ (λ p. after_begin m (count_of p.list) p.state) c)
 exact_step w k r u _ (fetch {t = t} {o = o} {e = e} a c h) = comes_to w k w _ a refl (seen_entry w t _ (Fetch t) (Make t) o e c h)
 exact_step w k r u _ (fetch_overtaken {t = t} a c) = comes_to w k w _ a refl (seen_older _ t.operation _ (λ p. by_sight (entry_in p.list t.index) (Fetch t) (Make t)) c)
@@ -152,7 +136,7 @@ exact_step w k r u _ (try_meets_own {t = t} {e = e} {m = m} a s) = comes_to w k 
 exact_step w k r u _ (try_meets_operation {t = t} {e = e} {m = m} {u = v} a s n) = comes_to w k w _ a (missed w k e.word (word.Plain e.expected) (word.Placing m) _ (r.tried t e m a) s (λ q. grind arith)) (seen_word w e.word (Try t e m) (after_try t e m) _ s ∙ cond-false _ _ _ (marks_differ v t.operation n))
 exact_step w k r u _ (try_differs {t = t} {e = e} {m = m} {v = v} a s n) = comes_to w k w _ a (missed w k e.word (word.Plain e.expected) (word.Placing m) (word.Plain v) (r.tried t e m a) s (λ q. n (cc))) (seen_word w e.word (Try t e m) (after_try t e m) _ s ∙ cond-false _ _ _ (ne_eqb v e.expected n))
 exact_step w k r u _ (decide_first {t = t} {o = o} {x = x} a c e) = comes_to w k _ _ a (decided_first w k t.operation o x c e) (seen_newest _ t.operation _ (λ p. after_decide t (outcome_after p.state x)) o c ∙ ap (λ (s : State). after_decide t (outcome_after s x)) e)
-exact_step w k r u _ (decide_later {t = t} {o = o} {x = x} y a c e) = comes_to w k w _ a (decided_later w k t.operation o x y c e) (seen_newest _ t.operation _ (λ p. after_decide t (outcome_after p.state x)) o c ∙ ap (λ (s : State). after_decide t (outcome_after s x)) e ∙ ap (after_decide t) (outcome_kept x y))
+exact_step w k r u _ (decide_later {t = t} {o = o} {x = x} y a c e) = comes_to w k w _ a (decided_later w k t.operation o x y c e) (seen_newest _ t.operation _ (λ p. after_decide t (outcome_after p.state x)) o c ∙ ap (λ (s : State). after_decide t (outcome_after s x)) e)
 exact_step w k r u _ (decide_overtaken {t = t} {x = x} a c) = comes_to w k w _ a (decided_never w k t.operation x c) (seen_older _ t.operation _ (λ p. after_decide t (outcome_after p.state x)) c)
 exact_step w k r u _ (clear_read {t = t} {x = x} {o = o} {e = e} a c h) = comes_to w k w _ a refl (seen_entry w t _ (Clear t x clearing.Read) (λ f. Clear t x (clearing.Load f)) o e c h)
 exact_step w k r u _ (clear_overtaken {t = t} {x = x} a c) = comes_to w k w _ a refl (seen_older _ t.operation _ (λ p. by_sight (entry_in p.list t.index) (Clear t x clearing.Read) (λ f. Clear t x (clearing.Load f))) c)

@@ -11,7 +11,7 @@ use Rattle.descriptor.specs.declared.contents.Operation.{Operation}
 use Rattle.descriptor.specs.declared.contents.Outcome.{Outcome}
 use Rattle.descriptor.specs.declared.contents.Outcome.TheVariants as outcome
 use Rattle.descriptor.specs.declared.contents.Placing.{Placing}
-use Rattle.descriptor.specs.Contents.{count_of, entry_in, state_of, entries_of}
+use Rattle.descriptor.specs.Contents.{count_of, entry_in, entries_of}
 use Rattle.cores.specs.declared.place.Work.{Work}
 use Rattle.cores.specs.declared.place.Place.{Place}
 use Rattle.cores.specs.declared.place.Place.TheVariants.{Make, Try, Clear, Settle}
@@ -138,8 +138,8 @@ module _ (first : ℕ) (w : World) (k : ℕ) (inv : Inv (view w)) (r : Ranged fi
       let T = t.operation in
       let p : Place = Clear (first_entry T t.count) x clearing.Read in
       let und : Undecided (view w) T = of_contents (λ y. y.state) T o c ∙ u in
-      kept (goes (decides_on w T o x) k p) (move (settled (view w) T.core (state_of x)) k p)
-      (view_goes (decides_on w T o x) k p (room_in T.core (with_operation (core_at w T.core) (record { last = T.number; contents = record { list = o.list; state = state_of x } })))
+      kept (goes (decides_on w T o x) k p) (move (settled (view w) T.core (Some x)) k p)
+      (view_goes (decides_on w T o x) k p (room_in T.core (with_operation (core_at w T.core) (record { last = T.number; contents = record { list = o.list; state = Some x } })))
       ∙ ap (λ (y : Memory). move y k p) (view_decides w T o x (omega (arith, c.0, r.eight)) c))
       (keeps_decide_first (view w) k t x inv a (current T o c) und) (stepped_decides (view w) k t x a (current T o c) und)
   rule_kept _ (decide_later {t = t} {o = o} {x = x} y a c u) =

@@ -1,13 +1,11 @@
-use Rattle.std.proofs.Common.{◌≡◌, ℕ, ◌+◌, ◌<◌, ◌≤◌, true, false, eqb, [], length, sym, refl, ap, ◌∙◌, subst, inl, arith}
+use Rattle.std.proofs.Common.{◌≡◌, ℕ, ◌+◌, ◌<◌, ◌≤◌, true, false, eqb, [], length, Some, sym, refl, ap, ◌∙◌, subst, inl, arith}
 use Rattle.std.proofs.lemmas.Bool.{false≢true, and_right, le-ltb}
 use Rattle.word.specs.declared.Mark.{Mark}
 use Rattle.word.specs.declared.Word.TheVariants as word
 use Rattle.entries.specs.declared.Entry.{Entry}
-use Rattle.descriptor.specs.declared.contents.State.TheVariants as state
 use Rattle.descriptor.specs.declared.contents.Outcome.{Outcome}
 use Rattle.descriptor.specs.declared.contents.Outcome.TheVariants as outcome
 use Rattle.descriptor.specs.declared.contents.Placing.{Placing}
-use Rattle.descriptor.specs.Contents.{state_of}
 use Rattle.cores.specs.declared.place.Work.{Work}
 use Rattle.cores.specs.declared.place.Then.TheVariants as then
 use Rattle.cores.specs.declared.place.Clearing.TheVariants as clearing
@@ -71,7 +69,7 @@ keeps_begin_undecided w c T inv here cur =
     go w c (Fetch (first_entry T (length (w.ents T.core)))) inv (rw here) (rw here) no (λ _ _. refl) (λ _ _ _. refl)
     (record { made = h.0; counted = λ _. refl; inside = h.1 cur; passed = λ _ _ j lt. absurd (omega arith) })
 
-pub keeps_begin_decided : (w : Memory) (c : ℕ) (T : Mark) (o : Outcome) → Inv w → w.place c ≡ Begin T → Current w T → w.state T.core ≡ state_of o
+pub keeps_begin_decided : (w : Memory) (c : ℕ) (T : Mark) (o : Outcome) → Inv w → w.place c ≡ Begin T → Current w T → w.state T.core ≡ Some o
     → Inv (move w c (Clear (first_entry T (length (w.ents T.core))) o clearing.Read))
 keeps_begin_decided w c T o inv here cur e =
     let h : PlaceOk w c (Begin T) = rw here at (inv.places_ok c) in
@@ -178,19 +176,19 @@ counted_some w c t o inv here cur =
     let h : PlaceOk w c (Decide t o) = rw here at (inv.places_ok c) in let a = h.2 cur in rw (h.1 cur) at a
 
 pub keeps_decide_first : (w : Memory) (c : ℕ) (t : Work) (o : Outcome) → Inv w → w.place c ≡ Decide t o → Current w t.operation → Undecided w t.operation
-    → Inv (move (settled w t.operation.core (state_of o)) c (Clear (first_entry t.operation t.count) o clearing.Read))
+    → Inv (move (settled w t.operation.core (Some o)) c (Clear (first_entry t.operation t.count) o clearing.Read))
 keeps_decide_first w c t o inv here cur und =
-    go_clear (settled w t.operation.core (state_of o)) c t.operation t.count o
-    (inv_settled w t.operation (state_of o) inv cur und (full o h.3)) (rw here) (rw here) h.0 h.1 (counted_some w c t o inv here cur) (λ _. upd_same w.state t.operation.core (state_of o))
+    go_clear (settled w t.operation.core (Some o)) c t.operation t.count o
+    (inv_settled w t.operation (Some o) inv cur und (full o h.3)) (rw here) (rw here) h.0 h.1 (counted_some w c t o inv here cur) (λ _. upd_same w.state t.operation.core (Some o))
   where
     h : PlaceOk w c (Decide t o)
     h = rw here at (inv.places_ok c)
 
-    full : (x : Outcome) → DecideOk w t x → state_of x ≡ state.Succeeded → (j : ℕ) → j < length (w.ents t.operation.core) → w.word (entry w t.operation j).word ≡ word.Operation t.operation
+    full : (x : Outcome) → DecideOk w t x → Some x ≡ (Some outcome.Succeeded) → (j : ℕ) → j < length (w.ents t.operation.core) → w.word (entry w t.operation j).word ≡ word.Operation t.operation
     full outcome.Succeeded z e j lt = z cur und j (rw (h.1 cur) at lt)
     full (outcome.Failed i) z e j lt = let bad : ◌≡◌ {A = ℕ} 0 1 = cc in absurd (omega arith)
 
-pub keeps_decide_later : (w : Memory) (c : ℕ) (t : Work) (o x : Outcome) → Inv w → w.place c ≡ Decide t o → Current w t.operation → w.state t.operation.core ≡ state_of x
+pub keeps_decide_later : (w : Memory) (c : ℕ) (t : Work) (o x : Outcome) → Inv w → w.place c ≡ Decide t o → Current w t.operation → w.state t.operation.core ≡ Some x
     → Inv (move w c (Clear (first_entry t.operation t.count) x clearing.Read))
 keeps_decide_later w c t o x inv here cur e =
     let h : PlaceOk w c (Decide t o) = rw here at (inv.places_ok c) in

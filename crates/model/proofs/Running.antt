@@ -3,8 +3,7 @@ use Rattle.std.proofs.lemmas.Bool.{cases_lt, cases_eq, cases_order, cases_Bool, 
 use Rattle.entries.specs.declared.Entry.{Entry}
 use Rattle.entries.specs.declared.list.Entries.{Entries}
 use Rattle.entries.specs.Listed.{listed}
-use Rattle.descriptor.specs.declared.contents.State.{State}
-use Rattle.descriptor.specs.declared.contents.State.TheVariants as state
+use Rattle.descriptor.specs.Contents.{State}
 use Rattle.descriptor.specs.declared.contents.Outcome.TheVariants as outcome
 use Rattle.word.specs.declared.Mark.{Mark}
 use Rattle.cores.specs.declared.place.Work.{Work}
@@ -41,7 +40,7 @@ pub record Running (h : History) (p t k n : ℕ) (es : List Entry) (o : Own) : T
 abbrev pub Going : Own → State → Type 0
 Going own.Nothing s = ⊥
 Going (own.Read i) s = Unit {0}
-Going (own.List M) s = s ≡ state.Undecided
+Going (own.List M) s = s ≡ None
 
 abbrev pub Active : Memory → ℕ → Type 0
 Active a k = (is_finished (a.place k) ≡ false) × Going (a.own k) (a.state k)
@@ -172,7 +171,7 @@ module _ (h : History) (t : ℕ) where
     unanswered = λ j act. ⊎_elim
         (λ (q : j ≡ k). subst (λ (x : ℕ). Unanswered h f (upd p k t x) (t + 1) x) (sym q) fresh)
         (λ (n : j ≡ k → ⊥). rw (upd_other p k j t n) (longer_unanswered f f (p j) j (unfinished j) (λ _ _ e _. e)
-        (g.unanswered j (rw (upd_other a.place k j pl n, upd_other a.own k j o n, upd_other a.state k j state.Undecided n) at act)))) (cases_eq j k);
+        (g.unanswered j (rw (upd_other a.place k j pl n, upd_other a.own k j o n, upd_other a.state k j None n) at act)))) (cases_eq j k);
     pending = λ j w i e cur und. ⊎_elim
         (λ (q : j ≡ k). absurd (both_ways (fails pl) plain (ap fails (sym (upd_at a.place k j pl q) ∙ e))))
         (λ (n : j ≡ k → ⊥). still j w i (sym (upd_other a.place k j pl n) ∙ e) cur und) (cases_eq j k);
@@ -197,5 +196,5 @@ module _ (h : History) (t : ℕ) where
           let n : w.operation.core ≡ k → ⊥ = λ q. omega (arith, made, ap a.num q, sym (upd_at a.num k w.operation.core (a.num k + 1) q) ∙ cur) in
           rw (upd_other p k w.operation.core t n)
           (pending_on h f f (p w.operation.core) t j a a' w i
-          (g.pending j w i e (sym (upd_other a.num k w.operation.core (a.num k + 1) n) ∙ cur) (sym (upd_other a.state k w.operation.core state.Undecided n) ∙ und))
+          (g.pending j w i e (sym (upd_other a.num k w.operation.core (a.num k + 1) n) ∙ cur) (sym (upd_other a.state k w.operation.core None n) ∙ und))
           (upd_other a.ents k w.operation.core es n) (λ s _ _ z. z))

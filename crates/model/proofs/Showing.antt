@@ -1,4 +1,4 @@
-use Rattle.std.proofs.Common.{◌≡◌, ℕ, zero, suc, ◌<◌, Bool, true, false, cond, eqb, ◌⊎◌, List, [], ◌∷◌, length, sym, refl, ap, ◌∙◌, subst, inl, inr, ⊎_elim, arith}
+use Rattle.std.proofs.Common.{◌≡◌, ℕ, zero, suc, ◌<◌, Bool, true, false, cond, eqb, ◌⊎◌, List, [], ◌∷◌, length, Some, None, sym, refl, ap, ◌∙◌, subst, inl, inr, ⊎_elim, arith}
 use mathlib.Core.Path.{fun_ext}
 use Rattle.std.proofs.lemmas.Bool.{both_ways, eqb-true, eqb-false}
 use Rattle.word.specs.declared.Mark.{Mark}
@@ -6,12 +6,10 @@ use Rattle.word.specs.declared.Word.{Word}
 use Rattle.word.specs.declared.Word.TheVariants as word
 use Rattle.entries.specs.declared.Entry.{Entry}
 use Rattle.entries.specs.Lists.{entry_at}
-use Rattle.descriptor.specs.declared.contents.State.{State}
-use Rattle.descriptor.specs.declared.contents.State.TheVariants as state
 use Rattle.descriptor.specs.declared.contents.Outcome.{Outcome}
 use Rattle.descriptor.specs.declared.contents.Outcome.TheVariants as outcome
 use Rattle.descriptor.specs.declared.contents.Placing.{Placing}
-use Rattle.descriptor.specs.Contents.{state_of, value_by, value_among}
+use Rattle.descriptor.specs.Contents.{value_by, value_among, State}
 use Rattle.model.specs.Step.{cleared_to, settled_to}
 use Rattle.model.specs.Plain.{HoldsExpected, Stored}
 use Rattle.model.proofs.Memory.{Memory, entry, upd, put, settled, fresh_pl}
@@ -55,12 +53,12 @@ value_found s es j apart lt =
     ⊎_elim (λ r. r.3 ∙ ap (λ (n : ℕ). value_by s (entry_at es n)) (apart r.0 j r.1 lt r.2)) (λ n. absurd (n j lt refl)) (named_or_not s es (entry_at es j).word)
 
 -- a state that has not succeeded gives the expected value
-unsucceeded : (s : State) (e : Entry) → (s ≡ state.Succeeded → ⊥) → value_by s e ≡ e.expected
-unsucceeded state.Undecided e h = refl
-unsucceeded state.Succeeded e h = absurd (h refl)
-unsucceeded (state.Failed i) e h = refl
+unsucceeded : (s : State) (e : Entry) → (s ≡ (Some outcome.Succeeded) → ⊥) → value_by s e ≡ e.expected
+unsucceeded None e h = refl
+unsucceeded (Some outcome.Succeeded) e h = absurd (h refl)
+unsucceeded (Some (outcome.Failed i)) e h = refl
 
-among_failed : (es : List Entry) (i n : ℕ) → value_among (state.Failed n) es i ≡ value_among state.Undecided es i
+among_failed : (es : List Entry) (i n : ℕ) → value_among (Some (outcome.Failed n)) es i ≡ value_among None es i
 unfolding value_among
 among_failed [] i n = refl
 among_failed (e ∷ es) i n = ap (cond (eqb e.word i) e.expected) (among_failed es i n)
@@ -80,12 +78,12 @@ shown_settled w m d true inv held here live =
     ∙ unsucceeded (w.state d.operation.core) (entry_at es h.index) h.unfinished ∙ h.value ∙ sym (ap (λ (p : Placing). p.expected) held)))
 
 -- Clear puts back what the operation shows there.
-pub shown_cleared : (w : Memory) (T : Mark) (o : Outcome) (j : ℕ) → Inv w → j < length (w.ents T.core) → w.state T.core ≡ state_of o
+pub shown_cleared : (w : Memory) (T : Mark) (o : Outcome) (j : ℕ) → Inv w → j < length (w.ents T.core) → w.state T.core ≡ Some o
     → w.word (entry w T j).word ≡ word.Operation T → shown_in (put w (entry w T j).word (cleared_to o (entry w T j))) ≡ shown_in w
 shown_cleared w T o j inv lt dec here =
     shown_put w (entry w T j).word (cleared_to o (entry w T j)) (by o dec (rw here (value_found (w.state T.core) (w.ents T.core) j (inv.lists T.core) lt)))
   where
-    by : (o : Outcome) → w.state T.core ≡ state_of o → shown_in w (entry w T j).word ≡ value_by (w.state T.core) (entry w T j) → shown_says w (entry w T j).word (cleared_to o (entry w T j)) ≡ shown_in w (entry w T j).word
+    by : (o : Outcome) → w.state T.core ≡ Some o → shown_in w (entry w T j).word ≡ value_by (w.state T.core) (entry w T j) → shown_says w (entry w T j).word (cleared_to o (entry w T j)) ≡ shown_in w (entry w T j).word
     by outcome.Succeeded d h = sym (h ∙ ap (λ (s : State). value_by s (entry w T j)) d)
     by (outcome.Failed i) d h = sym (h ∙ ap (λ (s : State). value_by s (entry w T j)) d)
 
@@ -104,33 +102,33 @@ shown_made w c d inv un = fun_ext (λ i. by i (w.word i) (inv.words i))
     by i (word.Foreign n) h = refl
 
 -- A decision to fail shows nothing new.
-pub shown_failed : (w : Memory) (c n : ℕ) → w.state c ≡ state.Undecided → shown_in (settled w c (state.Failed n)) ≡ shown_in w
+pub shown_failed : (w : Memory) (c n : ℕ) → w.state c ≡ None → shown_in (settled w c (Some (outcome.Failed n))) ≡ shown_in w
 shown_failed w c n und = fun_ext (λ i. by i (w.word i))
   where
-    by : (i : ℕ) (x : Word) → shown_of w.pl (upd w.state c (state.Failed n)) w.ents i x ≡ shown_says w i x
+    by : (i : ℕ) (x : Word) → shown_of w.pl (upd w.state c (Some (outcome.Failed n))) w.ents i x ≡ shown_says w i x
     by i (word.Plain v) = refl
     by i (word.Placing m) = refl
     by i (word.Operation T) =
-        upd_both w.state c T.core (state.Failed n) (λ s. value_among s (w.ents T.core) i ≡ value_among (w.state T.core) (w.ents T.core) i)
+        upd_both w.state c T.core (Some (outcome.Failed n)) (λ s. value_among s (w.ents T.core) i ≡ value_among (w.state T.core) (w.ents T.core) i)
         (λ q. rw (q, und) (among_failed (w.ents c) i n)) (λ _. refl)
     by i (word.Foreign n) = refl
 
 -- A decision to succeed: every listed word shows its expected value before, and the new values are stored after.
 module _ (w : Memory) (T : Mark) (inv : Inv w) (cur : Current w T) (und : Undecided w T) (full : (j : ℕ) → j < length (w.ents T.core) → w.word (entry w T j).word ≡ word.Operation T) where
   pub all_expected : (j : ℕ) → j < length (w.ents T.core) → HoldsExpected (shown_in w) (w.ents T.core) j
-  all_expected j lt = rw (full j lt, und) (value_found state.Undecided (w.ents T.core) j (inv.lists T.core) lt)
+  all_expected j lt = rw (full j lt, und) (value_found None (w.ents T.core) j (inv.lists T.core) lt)
 
   other_word : (i : ℕ) → ((j : ℕ) → j < length (w.ents T.core) → (entry w T j).word ≡ i → ⊥) → (x : Word) → WordOk w i x
-      → shown_of w.pl (upd w.state T.core state.Succeeded) w.ents i x ≡ shown_says w i x
+      → shown_of w.pl (upd w.state T.core (Some outcome.Succeeded)) w.ents i x ≡ shown_says w i x
   other_word i none (word.Plain v) h = refl
   other_word i none (word.Placing m) h = refl
   other_word i none (word.Operation U) h =
-      upd_both w.state T.core U.core state.Succeeded (λ s. value_among s (w.ents U.core) i ≡ value_among (w.state U.core) (w.ents U.core) i)
+      upd_both w.state T.core U.core (Some outcome.Succeeded) (λ s. value_among s (w.ents U.core) i ≡ value_among (w.state U.core) (w.ents U.core) i)
       (λ q. absurd (none h.1.0 (subst (λ (n : ℕ). h.1.0 < length (w.ents n)) q h.1.1) (subst (λ (n : ℕ). (entry_at (w.ents n) h.1.0).word ≡ i) q h.1.2))) (λ _. refl)
   other_word i none (word.Foreign n) h = refl
 
-  pub new_stored : Stored (w.ents T.core) (shown_in w) (shown_in (settled w T.core state.Succeeded))
+  pub new_stored : Stored (w.ents T.core) (shown_in w) (shown_in (settled w T.core (Some outcome.Succeeded)))
   new_stored = record {
-    listed_words = λ j lt. rw (full j lt, upd_same w.state T.core state.Succeeded) (value_found state.Succeeded (w.ents T.core) j (inv.lists T.core) lt);
+    listed_words = λ j lt. rw (full j lt, upd_same w.state T.core (Some outcome.Succeeded)) (value_found (Some outcome.Succeeded) (w.ents T.core) j (inv.lists T.core) lt);
     other_words = λ i none. other_word i none (w.word i) (inv.words i);
   }

@@ -1,11 +1,9 @@
-use Rattle.std.proofs.Common.{◌≡◌, ℕ, true, false, sym, refl, ◌∙◌, inl, inr, arith}
+use Rattle.std.proofs.Common.{◌≡◌, ℕ, true, false, Some, None, sym, refl, ◌∙◌, inl, inr, arith}
 use Rattle.word.specs.declared.Mark.{Mark}
 use Rattle.entries.specs.declared.Entry.{Entry}
-use Rattle.descriptor.specs.declared.contents.State.TheVariants as state
 use Rattle.descriptor.specs.declared.contents.Outcome.{Outcome}
 use Rattle.descriptor.specs.declared.contents.Outcome.TheVariants as outcome
 use Rattle.descriptor.specs.declared.contents.Placing.{Placing}
-use Rattle.descriptor.specs.Contents.{state_of}
 use Rattle.cores.specs.declared.place.Work.{Work}
 use Rattle.cores.specs.declared.place.Then.{Then}
 use Rattle.cores.specs.declared.place.Then.TheVariants as then
@@ -21,9 +19,8 @@ use Rattle.model.proofs.Facts.{Made, Current, Undecided, PlMade, PlCurrent, Pass
 -- What is known of a core's place stays known under the steps of others.
 
 -- a decided state is not undecided
-pub not_undecided : (o : Outcome) → state_of o ≡ state.Undecided → ⊥
-not_undecided outcome.Succeeded e = let z : ◌≡◌ {A = ℕ} 0 1 = cc in omega arith
-not_undecided (outcome.Failed i) e = let z : ◌≡◌ {A = ℕ} 0 1 = cc in omega arith
+pub not_undecided : (o : Outcome) → Some o ≡ None → ⊥
+not_undecided o e = grind arith
 
 module _ (w w' : Memory) (k : ℕ) (r : Rely w w' k) where
   pub made_on : (T : Mark) → Made w T → Made w' T

@@ -1,4 +1,4 @@
-use Rattle.std.proofs.Common.{◌≡◌, ℕ, ◌+◌, ◌<◌, List, length, get_or, set, sym, refl, ap, ◌∙◌, length-set, get_or-set_other, get_or-set_same}
+use Rattle.std.proofs.Common.{◌≡◌, ℕ, ◌+◌, ◌<◌, List, length, get_or, set, Some, sym, refl, ap, ◌∙◌, length-set, get_or-set_other, get_or-set_same}
 use mathlib.Core.Path.{fun_ext}
 use Rattle.word.specs.declared.Mark.{Mark}
 use Rattle.word.specs.declared.Word.{Word}
@@ -7,7 +7,7 @@ use Rattle.word.proofs.Readings.{written_back}
 use Rattle.descriptor.specs.declared.contents.Operation.{Operation}
 use Rattle.descriptor.specs.declared.contents.Outcome.{Outcome}
 use Rattle.descriptor.specs.declared.contents.Placing.{Placing}
-use Rattle.descriptor.specs.Contents.{state_of, entries_of}
+use Rattle.descriptor.specs.Contents.{entries_of}
 use Rattle.cores.specs.declared.place.Place.{Place}
 use Rattle.cores.specs.declared.table.Core.{Core}
 use Rattle.model.specs.World.{World, core_at, with_core}
@@ -64,10 +64,10 @@ view_stores w i x lt ok = λ k. record {
   own = (view w).own;
 }
 
-pub view_decides : (w : World) (m : Mark) (o : Operation) (x : Outcome) → m.core < length w.table.cores → Current w m o → view (decides_on w m o x) ≡ settled (view w) m.core (state_of x)
+pub view_decides : (w : World) (m : Mark) (o : Operation) (x : Outcome) → m.core < length w.table.cores → Current w m o → view (decides_on w m o x) ≡ settled (view w) m.core (Some x)
 view_decides w m o x lt cur =
     view_core w m.core _ lt
-    ∙ (λ i. record { word = (view w).word; num = upd_self (view w).num m.core m.number cur.1 i; ents = upd_self (view w).ents m.core (entries_of o.list) (ap (λ (y : Operation). entries_of y.list) (sym cur.2)) i; state = upd (view w).state m.core (state_of x); pnum = upd_self (view w).pnum m.core _ refl i; pl = upd_self (view w).pl m.core _ refl i; place = upd_self (view w).place m.core _ refl i; own = upd_self (view w).own m.core _ refl i })
+    ∙ (λ i. record { word = (view w).word; num = upd_self (view w).num m.core m.number cur.1 i; ents = upd_self (view w).ents m.core (entries_of o.list) (ap (λ (y : Operation). entries_of y.list) (sym cur.2)) i; state = upd (view w).state m.core (Some x); pnum = upd_self (view w).pnum m.core _ refl i; pl = upd_self (view w).pl m.core _ refl i; place = upd_self (view w).place m.core _ refl i; own = upd_self (view w).own m.core _ refl i })
 
 pub view_creates : (w : World) (k : ℕ) (p : Placing) → k < length w.table.cores → view (creates w k p) ≡ fresh_pl (view w) k p
 view_creates w k p lt =

@@ -1,8 +1,7 @@
-use Rattle.std.specs.Prelude.{◌≡◌, ℕ, ◌+◌, ◌<◌, ◌≤◌, List, length, Ok}
+use Rattle.std.specs.Prelude.{◌≡◌, ℕ, ◌+◌, ◌<◌, ◌≤◌, List, length, Some, Ok}
 use Rattle.entries.specs.declared.list.Entries.{Entries}
 use Rattle.entries.specs.Listed.{listed}
 use Rattle.descriptor.specs.declared.contents.Outcome.{Outcome}
-use Rattle.descriptor.specs.Contents.{state_of}
 use Rattle.model.specs.World.{World, core_at}
 use Rattle.model.specs.Rules.{answer_of}
 use Rattle.model.specs.Shown.{shown_value}
@@ -31,7 +30,7 @@ pub record Finishes (h : History) (p c t : ℕ) : Type 0 where
 pub record Decided (w : World) (c n a : ℕ) : Type 0 where
   pub current : (core_at w c).operation.last ≡ n
   pub outcome : Outcome
-  pub state : (core_at w c).operation.contents.state ≡ state_of outcome
+  pub state : (core_at w c).operation.contents.state ≡ Some outcome
   pub answer : answer_of outcome ≡ a
 
 -- The machine's answer of the operation started at p, so far: a k-CAS's decided outcome, collected or not; the value that a read finished with.

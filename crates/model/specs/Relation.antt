@@ -6,11 +6,10 @@ use Rattle.word.specs.Word.{reading_of, raw_of, Value, Made}
 use Rattle.entries.specs.declared.Entry.{Entry}
 use Rattle.descriptor.specs.declared.Descriptor.{Descriptor}
 use Rattle.descriptor.specs.declared.contents.Operation.{Operation}
-use Rattle.descriptor.specs.declared.contents.State.TheVariants as state
 use Rattle.descriptor.specs.declared.contents.Outcome.{Outcome}
 use Rattle.descriptor.specs.declared.contents.Outcome.TheVariants as outcome
 use Rattle.descriptor.specs.declared.contents.Placing.{Placing}
-use Rattle.descriptor.specs.Contents.{count_of, entry_in, state_of}
+use Rattle.descriptor.specs.Contents.{count_of, entry_in}
 use Rattle.cores.specs.declared.place.Work.{Work}
 use Rattle.cores.specs.declared.place.Then.{Then}
 use Rattle.cores.specs.declared.place.Then.TheVariants as then
@@ -82,7 +81,7 @@ stores w i x = with_words w (slice_set w.words i (raw_of x))
 -- the operation of mark m, with contents o, now has the state of the outcome x
 abbrev pub decides_on : World → Mark → Operation → Outcome → World
 decides_on w m o x =
-    with_core w m.core (with_operation (core_at w m.core) (record { last = m.number; contents = record { list = o.list; state = state_of x } }))
+    with_core w m.core (with_operation (core_at w m.core) (record { last = m.number; contents = record { list = o.list; state = Some x } }))
 
 -- the number that core k's next placing takes, and the world after: its placing descriptor has the contents p under that number
 abbrev pub next_placing : World → ℕ → ℕ
@@ -99,9 +98,9 @@ pub data Rule (w : World) (k : ℕ) : World → Type 0 where
   look_placing : {i : ℕ} {m : Mark} → At w k (Look i) → Sees w i (word.Placing m) → Rule w k (goes w k (Settle m settling.Read (then.Look i)))
   look_operation : {i : ℕ} {m : Mark} → At w k (Look i) → Sees w i (word.Operation m) → Rule w k (goes w k (Begin m))
   -- Begin T: read its state and its count. Departure: one access reads several fields, here and in Fetch, Clear and Settle.
-  begin_undecided : {m : Mark} {o : Operation} → At w k (Begin m) → Current w m o → o.state ≡ state.Undecided
+  begin_undecided : {m : Mark} {o : Operation} → At w k (Begin m) → Current w m o → o.state ≡ None
       → Rule w k (goes w k (Fetch (first_entry m (count_of o.list))))
-  begin_decided : {m : Mark} {o : Operation} (x : Outcome) → At w k (Begin m) → Current w m o → o.state ≡ state_of x
+  begin_decided : {m : Mark} {o : Operation} (x : Outcome) → At w k (Begin m) → Current w m o → o.state ≡ Some x
       → Rule w k (goes w k (Clear (first_entry m (count_of o.list)) x clearing.Read))
   begin_overtaken : {m : Mark} → At w k (Begin m) → OvertakenOperation w m → Rule w k (goes_home w k)
   -- Fetch: read the entry.
@@ -123,9 +122,9 @@ pub data Rule (w : World) (k : ℕ) : World → Type 0 where
   try_differs : {t : Work} {e : Entry} {m : Mark} {v : ℕ} → At w k (Try t e m) → Sees w e.word (word.Plain v) → (v ≢ e.expected)
       → Rule w k (goes w k (Decide t (outcome.Failed t.index)))
   -- Decide: the first decision gives T its state, and a later one leaves it. Then T is cleared with the state that it has, from entry 1.
-  decide_first : {t : Work} {o : Operation} {x : Outcome} → At w k (Decide t x) → Current w t.operation o → o.state ≡ state.Undecided
+  decide_first : {t : Work} {o : Operation} {x : Outcome} → At w k (Decide t x) → Current w t.operation o → o.state ≡ None
       → Rule w k (goes (decides_on w t.operation o x) k (Clear (first_entry t.operation t.count) x clearing.Read))
-  decide_later : {t : Work} {o : Operation} {x : Outcome} (y : Outcome) → At w k (Decide t x) → Current w t.operation o → o.state ≡ state_of y
+  decide_later : {t : Work} {o : Operation} {x : Outcome} (y : Outcome) → At w k (Decide t x) → Current w t.operation o → o.state ≡ Some y
       → Rule w k (goes w k (Clear (first_entry t.operation t.count) y clearing.Read))
   decide_overtaken : {t : Work} {x : Outcome} → At w k (Decide t x) → OvertakenOperation w t.operation → Rule w k (goes_home w k)
   -- Clear, with T's outcome x: read the entry; load its word; swap the word from T's mark to the new value if T succeeded, else to the
@@ -147,9 +146,9 @@ pub data Rule (w : World) (k : ℕ) : World → Type 0 where
   -- with what it was at.
   settle_read : {m : Mark} {j : Then} {p : Placing} → At w k (Settle m settling.Read j) → CurrentPlacing w m p → Rule w k (goes w k (Settle m (settling.State p) j))
   settle_overtaken : {m : Mark} {j : Then} → At w k (Settle m settling.Read j) → OvertakenPlacing w m → Rule w k (goes w k (resume j))
-  settle_undecided : {m : Mark} {j : Then} {p : Placing} {o : Operation} → At w k (Settle m (settling.State p) j) → Current w p.operation o → o.state ≡ state.Undecided
+  settle_undecided : {m : Mark} {j : Then} {p : Placing} {o : Operation} → At w k (Settle m (settling.State p) j) → Current w p.operation o → o.state ≡ None
       → Rule w k (goes w k (Settle m (settling.Swap p true) j))
-  settle_decided : {m : Mark} {j : Then} {p : Placing} {o : Operation} → At w k (Settle m (settling.State p) j) → Current w p.operation o → (o.state ≢ state.Undecided)
+  settle_decided : {m : Mark} {j : Then} {p : Placing} {o : Operation} → At w k (Settle m (settling.State p) j) → Current w p.operation o → (o.state ≢ None)
       → Rule w k (goes w k (Settle m (settling.Swap p false) j))
   settle_past : {m : Mark} {j : Then} {p : Placing} → At w k (Settle m (settling.State p) j) → OvertakenOperation w p.operation
       → Rule w k (goes w k (Settle m (settling.Swap p false) j))

@@ -4,8 +4,7 @@ use Rattle.word.specs.declared.Word.{Word}
 use Rattle.word.specs.declared.Word.TheVariants as word
 use Rattle.entries.specs.declared.Entry.{Entry}
 use Rattle.descriptor.specs.declared.Overtaken.{Overtaken}
-use Rattle.descriptor.specs.declared.contents.State.{State}
-use Rattle.descriptor.specs.declared.contents.State.TheVariants as state
+use Rattle.descriptor.specs.Contents.{State}
 use Rattle.descriptor.specs.declared.contents.Outcome.{Outcome}
 use Rattle.descriptor.specs.declared.contents.Outcome.TheVariants as outcome
 use Rattle.cores.specs.declared.place.Work.{Work}
@@ -57,9 +56,8 @@ after_look i (word.Foreign n) = Look i
 -- Begin T, the first place of a k-CAS with T = M: read T's state and count. Undecided: fetch entry 1. Otherwise: clear entry 1.
 -- Departure: one access reads several fields.
 abbrev pub after_begin : Mark → ℕ → State → Place
-after_begin m n state.Undecided = Fetch (first_entry m n)
-after_begin m n state.Succeeded = Clear (first_entry m n) outcome.Succeeded clearing.Read
-after_begin m n (state.Failed i) = Clear (first_entry m n) (outcome.Failed i) clearing.Read
+after_begin m n None = Fetch (first_entry m n)
+after_begin m n (Some o) = Clear (first_entry m n) o clearing.Read
 
 -- Next costs no step: fetch the next entry; after the last one, decide that T succeeded.
 abbrev pub next_entry : Work → Place
@@ -80,9 +78,8 @@ after_decide t o = Clear (first_entry t.operation t.count) o clearing.Read
 
 -- the outcome that an operation has after a decision: the first one stays
 abbrev pub outcome_after : State → Outcome → Outcome
-outcome_after state.Undecided o = o
-outcome_after state.Succeeded o = outcome.Succeeded
-outcome_after (state.Failed i) o = outcome.Failed i
+outcome_after None o = o
+outcome_after (Some x) o = x
 
 -- Clear, second step: load the entry's word, and settle any placing mark seen.
 -- Departure: a clearing core first settles a placing mark.
@@ -116,6 +113,5 @@ resume (then.Clear t o e) = Clear t o (clearing.Swap e)
 
 -- whether a state is undecided
 abbrev pub is_undecided : State → Bool
-is_undecided state.Undecided = true
-is_undecided state.Succeeded = false
-is_undecided (state.Failed i) = false
+is_undecided None = true
+is_undecided (Some o) = false

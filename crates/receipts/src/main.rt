@@ -9,7 +9,7 @@ use cores::table::{Refusal, Setting};
 use machine::{Machine, Receipt};
 use std::io;
 
-/// Closes an open machine.
+/// Closes an open machine. No `unwrap`: an error would hold a receipt, which cannot be let go.
 fn close<B: Bank>(machine: &mut Machine<B>, receipt: Receipt) -> u64
     requires { machine.old.table.running ≡ true }
     ensures { result ≡ 0 }

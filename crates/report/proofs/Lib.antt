@@ -1,3 +1,2 @@
-pub mod Lists
-pub mod Requests
+pub mod Planned
 pub mod Told

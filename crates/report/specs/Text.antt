@@ -1,5 +1,4 @@
 use Rattle.std.specs.Prelude.{◌≡◌, ℕ, List, [], replicate, Some, None, Ok, Err, Option, Result}
-use Rattle.entries.specs.declared.list.Entries.{Entries}
 use Rattle.cores.specs.declared.table.Refusal.{Refusal}
 use Rattle.cores.specs.declared.table.Setting.{Setting as MachineSetting}
 use Rattle.model.specs.Calls.{opens}
@@ -17,7 +16,7 @@ use Rattle.runfile.specs.declared.file.Setting.{Setting}
 use Rattle.runfile.specs.Format.{Contents}
 use Rattle.listing.specs.Lines.{fault_line}
 use Rattle.listing.specs.Listing.{ended, listing}
-use Rattle.report.specs.Plan.{MadeLists, lists_in, requests_of}
+use Rattle.report.specs.Plan.{AsksAll}
 
 -- The text that a run file's bytes come to.
 
@@ -28,34 +27,30 @@ machine_setting s = record { cores = s.cores; first = s.first; protected = s.pro
 abbrev pub zeros : Contents → List ℕ
 zeros f = replicate f.setting.words 0
 
--- the requests of a file's calls
-abbrev pub requests : Contents → List Request
-requests f = requests_of 0 f.records f.calls
-
 -- what an opening answers, by why it is refused
 abbrev pub opening_answer : Option Refusal → Result (Unit {0}) Refusal
 opening_answer (Some q) = Err q
 opening_answer None = Ok tt
 
 -- a run on words that begin at 0, whatever it leaves there
-abbrev pub RanOnZeros : ℕ → MachineSetting → List (Option Entries) → List Request → Result Report NotRun → Type 0
-RanOnZeros n s ls qs r = (left : List ℕ) × Ran (replicate n 0) s ls qs r left
+abbrev pub RanOnZeros : ℕ → MachineSetting → List Request → Result Report NotRun → Type 0
+RanOnZeros n s qs r = (left : List ℕ) × Ran (replicate n 0) s qs r left
 
 -- the text where the run was not made: a refused opening's; want of memory has none
 abbrev pub TellsWhy : NotRun → List ℕ → Type 0
 TellsWhy (Refused q) text = text ≡ listing (Err q) [] [] []
 TellsWhy Memory text = ⊥
 
--- the listing of a file's run with these lists
-abbrev pub run_text : Contents → List (Option Entries) → List ℕ
-run_text f ls =
+-- the listing of a file's run with these requests
+abbrev pub run_text : Contents → List Request → List ℕ
+run_text f qs =
     let s = machine_setting f.setting in
-    listing (opening_answer (refusal_of (shut (zeros f)) (opens s))) f.calls (answers_to (opened (shut (zeros f)) s) ls (requests f)) (values_in (plain_words (run_end (zeros f) s ls (requests f))))
+    listing (opening_answer (refusal_of (shut (zeros f)) (opens s))) f.calls (answers_to (opened (shut (zeros f)) s) qs) (values_in (plain_words (run_end (zeros f) s qs)))
 
--- The text is the listing of the file's run, with the lists that its records make; and the promises hold of that run.
+-- The text is the listing of the file's run, with the requests of its calls; and the promises hold of that run.
 abbrev pub Lists : Contents → List ℕ → Type 0
 Lists f text =
-    (ls : List (Option Entries)) × MadeLists ls (lists_in f.records) × (text ≡ run_text f ls) × RunPromises (zeros f) (machine_setting f.setting) ls (requests f)
+    (qs : List Request) × AsksAll qs f.records f.calls × (text ≡ run_text f qs) × RunPromises (zeros f) (machine_setting f.setting) qs
 
 -- the text of a fault: its line; want of memory has none
 abbrev pub TellsFault : Fault → List ℕ → Type 0

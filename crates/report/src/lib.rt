@@ -2,7 +2,7 @@
 
 #![tactic(auto)]
 
-ghost use Rattle.std.specs.Prelude.{◌≡◌, [], replicate, IfOk, Ok, Err};
+ghost use Rattle.std.specs.Prelude.{◌≡◌, [], replicate, codes, IfOk, Some, Ok, Err};
 ghost use Rattle.listing.specs.Listing.{listing};
 ghost use Rattle.runfile.specs.Reading.{reading, contents};
 ghost use Rattle.machine.specs.Runs.{RunPromises};
@@ -12,19 +12,30 @@ mod plan;
 
 use bank::WordBank;
 use cores::table::{Refusal, Setting};
-use entries::Entries;
 use listing::lines::FaultLine;
 use listing::whole::Listing;
 use machine::run::{NotRun, Report, Request, run};
-use plan::{lists_of, requests_of};
+use plan::{jobs_of, requests_of};
 use runfile::file;
 use runfile::file::{Call, Fault, RunFile};
 use runfile::reader::read;
 use std::alloc::{AllocError, Global};
+use std::error::Error;
+use std::fmt;
 
-/// There was no memory for the listing.
-#[derive(Clone, Copy)]
+/// There was no memory for the run. Where the run told of it, no `AllocError` is at hand any more.
+#[derive(Clone, Copy, PartialEq, Eq, Debug)]
 pub struct NoMemory;
+
+impl fmt::Display for NoMemory {
+    ghost output = { λ _. Some (codes "no memory for the run") };
+
+    fn fmt<W: fmt::Write>(&self, f: &mut fmt::Formatter<W>) -> fmt::Result {
+        write!(f, "no memory for the run")
+    }
+}
+
+impl Error for NoMemory {}
 
 impl From<AllocError> for NoMemory {
     fn from(_e: AllocError) -> NoMemory {
@@ -32,7 +43,7 @@ impl From<AllocError> for NoMemory {
     }
 }
 
-/// What the machine is opened with.
+/// What the machine is opened with. A `From` would stand in the crate of one of the two types, and neither knows the other.
 fn machine_setting(setting: file::Setting) -> Setting
     ensures { result ≡ machine_setting setting }
 {
@@ -46,27 +57,23 @@ fn machine_setting(setting: file::Setting) -> Setting
 
 /// Runs the requests on words that begin at 0.
 fn run_on_zeros(
-    heap: Global,
+    alloc: Global,
     words: u16,
     setting: Setting,
-    lists: &[Option<Entries>],
-    requests: &[Request],
+    requests: &[Request<'_>],
 ) -> Result<Report, NotRun>
-    ensures ran { RanOnZeros words setting lists.now requests.now result }
-    ensures promises { RunPromises (replicate words 0) setting lists.now requests.now }
+    ensures ran { RanOnZeros words setting requests.now result }
+    ensures promises { RunPromises (replicate words 0) setting requests.now }
 {
-    let mut zeros = match vec![in heap; 0u64; usize::from(words)] {
-        Ok(zeros) => zeros,
-        Err(_) => return Err(NotRun::Memory),
-    };
+    let mut zeros = vec![in alloc; 0u64; usize::from(words)]?;
     let bank = WordBank::over(zeros.as_mut_slice());
-    let (_, ran) = run(heap, bank, setting, lists, requests);
+    let (_, ran) = run(alloc, bank, setting, requests);
     ran
 }
 
 /// The listing of a run that was made.
 fn granted_text<'a>(
-    heap: Global,
+    alloc: Global,
     calls: &'a [Call],
     report: &'a Report,
 ) -> Result<Vec<u8>, NoMemory>
@@ -78,11 +85,11 @@ fn granted_text<'a>(
         answers: report.answers.as_slice(),
         words: report.words.as_slice(),
     };
-    Ok(whole.bytes(heap)?)
+    Ok(whole.bytes(alloc)?)
 }
 
 /// The listing of a refused opening.
-fn refused_text(heap: Global, refusal: Refusal) -> Result<Vec<u8>, NoMemory>
+fn refused_text(alloc: Global, refusal: Refusal) -> Result<Vec<u8>, NoMemory>
     ensures { IfOk result (λ t. t.items ≡ listing (Err refusal) [] [] []) }
 {
     let whole = Listing {
@@ -91,59 +98,52 @@ fn refused_text(heap: Global, refusal: Refusal) -> Result<Vec<u8>, NoMemory>
         answers: &[],
         words: &[],
     };
-    Ok(whole.bytes(heap)?)
+    Ok(whole.bytes(alloc)?)
 }
 
 /// The listing where the run was not made.
-fn not_run_text(heap: Global, why: NotRun) -> Result<Vec<u8>, NoMemory>
+fn not_run_text(alloc: Global, why: NotRun) -> Result<Vec<u8>, NoMemory>
     ensures { IfOk result (λ t. TellsWhy why t.items) }
 {
     match why {
-        NotRun::Refused(refusal) => refused_text(heap, refusal),
+        NotRun::Refused(refusal) => refused_text(alloc, refusal),
         NotRun::Memory => Err(NoMemory),
     }
 }
 
 /// The listing of the run that a sound file asks for.
-fn run_text(heap: Global, file: &RunFile) -> Result<Vec<u8>, NoMemory>
+fn run_text(alloc: Global, file: &RunFile) -> Result<Vec<u8>, NoMemory>
     ensures { IfOk result (λ t. Lists (contents file.now) t.items) }
 {
-    let records = file.records.as_slice();
+    let jobs = jobs_of(alloc, file.records.as_slice())?;
     let calls = file.calls.as_slice();
-    let lists = lists_of(heap, records)?;
-    let requests = requests_of(heap, records, calls)?;
+    let requests = requests_of(alloc, jobs.as_slice(), calls)?;
     let setting = machine_setting(file.setting);
-    match run_on_zeros(
-        heap,
-        file.setting.words,
-        setting,
-        lists.as_slice(),
-        requests.as_slice(),
-    ) {
-        Ok(report) => granted_text(heap, calls, &report),
-        Err(why) => not_run_text(heap, why),
+    match run_on_zeros(alloc, file.setting.words, setting, requests.as_slice()) {
+        Ok(report) => granted_text(alloc, calls, &report),
+        Err(why) => not_run_text(alloc, why),
     }
 }
 
 /// The line of a faulty file.
-fn fault_text(heap: Global, fault: Fault) -> Result<Vec<u8>, NoMemory>
+fn fault_text(alloc: Global, fault: Fault) -> Result<Vec<u8>, NoMemory>
     ensures { IfOk result (λ t. TellsFault fault t.items) }
 {
     match fault {
         Fault::At(place) => {
             let line = FaultLine { place };
-            Ok(format!(in heap; "{line}\n")?.into_bytes())
+            Ok(format!(in alloc; "{line}\n")?.into_bytes())
         }
         Fault::Memory => Err(NoMemory),
     }
 }
 
 /// The text that the bytes of a run file come to: the listing of its run, or the line of its first fault.
-pub fn report(heap: Global, bytes: &[u8]) -> Result<Vec<u8>, NoMemory>
+pub fn report(alloc: Global, bytes: &[u8]) -> Result<Vec<u8>, NoMemory>
     ensures { IfOk result (λ t. ComesTo (reading bytes.now) t.items) }
 {
-    match read(heap, bytes) {
-        Ok(file) => run_text(heap, &file),
-        Err(fault) => fault_text(heap, fault),
+    match read(alloc, bytes) {
+        Ok(file) => run_text(alloc, &file),
+        Err(fault) => fault_text(alloc, fault),
     }
 }

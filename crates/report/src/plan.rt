@@ -1,107 +1,90 @@
-//! A run file's records and calls, as lists and requests.
-ghost use Rattle.std.specs.Prelude.{◌≡◌, ◌≤◌, map, drop, IfOk, OnOk};
+//! A run file's records and calls, as the requests of a run.
+ghost use Rattle.std.specs.Prelude.{◌≡◌, List, map, None, IfOk, MatchOption};
+ghost use Rattle.std.specs.List.{AllZip};
+ghost use Rattle.runfile.specs.Format.{Recorded};
 ghost use Rattle.runfile.specs.Reading.{recorded};
-ghost use Rattle.report.specs.Plan.{Makes, MadeLists, Added, lists_in, start_for, rest_of, one_more, request_for, next_record, next_list, requests_of};
+ghost use Rattle.report.specs.Plan.{Makes, IsJob, Starts, IsAsked, next_record, AsksAll};
+ghost use Rattle.machine.specs.declared.run.Request.TheVariants.{Start};
 
 use entries::{Entries, Entry};
 use machine::run::Request;
 use runfile::file::{Action, Call, Record};
 use std::alloc::{AllocError, Global};
+use std::slice::Iter;
 
-/// The list of these entries, if they are a lawful one.
+/// What a record has a core start: a read of a word, or a list. There is no list where its entries are no lawful one.
+#[derive(Clone, Copy)]
+pub(crate) enum Job {
+    Read(u64),
+    List(Option<Entries>),
+}
+
+/// The list of these entries, if they are a lawful one: `fill` is the one way to such a list.
 fn list_of(entries: &[Entry]) -> Option<Entries>
     ensures { Makes result entries.now }
 {
     let mut list = Entries::new();
-    match list.fill(entries) {
-        Ok(()) => Some(list),
-        Err(_) => None,
+    list.fill(entries).ok()?;
+    Some(list)
+}
+
+/// The job of the record.
+fn job_of(source: &Record) -> Job
+    ensures { IsJob result (recorded source.now) }
+{
+    match source {
+        Record::Read(word) => Job::Read(u64::from(*word)),
+        Record::List(entries) => Job::List(list_of(entries.as_slice())),
     }
 }
 
-/// Puts the next record's list after the others, if it is a list.
-fn add_list(lists: &mut Vec<Option<Entries>>, next: &Record) -> Result<(), AllocError>
-    ensures { OnOk result (Added (recorded next.now) lists.old.items lists.new.items) }
+/// The jobs of the records, in order.
+pub(crate) fn jobs_of(alloc: Global, records: &[Record]) -> Result<Vec<Job>, AllocError>
+    ensures { IfOk result (λ v. AllZip IsJob v.items (map recorded records.now)) }
+{
+    let mut jobs = Vec::with_capacity(alloc, records.len())?;
+    for record in records {
+        jobs.push(job_of(record))?;
+    }
+    Ok(jobs)
+}
+
+/// The start of the core with the next job.
+fn start<'a>(core: u8, next: Option<&'a Job>) -> Request<'a>
+    ensures { MatchOption next.entry (result ≡ Start core None) (λ w. Starts result core w.now) }
 {
     match next {
-        Record::Read(_) => Ok(()),
-        Record::List(entries) => {
-            lists.push(list_of(entries.as_slice()))?;
-            Ok(())
-        }
+        Some(Job::Read(word)) => Request::Read(core, *word),
+        Some(Job::List(list)) => Request::Start(core, list.as_ref()),
+        None => Request::Start(core, None),
     }
 }
 
-/// The lists of all records that are lists, in order.
-pub fn lists_of(heap: Global, records: &[Record]) -> Result<Vec<Option<Entries>>, AllocError>
-    ensures { IfOk result (λ v. MadeLists v.items (lists_in (map recorded records.now))) }
+/// The request of the call: a start takes the next job.
+fn request<'a>(call: Call, left: &mut Iter<'a, Job>) -> Request<'a>
+    ensures { (rs : List Recorded) → AllZip IsJob left.old.rest.now rs → IsAsked result call.core rs call.action × AllZip IsJob left.new.rest.now (next_record rs call.action) }
 {
-    let mut lists = Vec::new(heap);
-    for i in 0..records.len() {
-        add_list(&mut lists, &records[i])?;
-    }
-    Ok(lists)
-}
-
-/// How far the records are used up: the next record, and the next list among them.
-#[derive(Clone, Copy)]
-struct Used {
-    records: usize,
-    lists: usize,
-}
-
-impl Used {
-    /// The start of the core with the next record.
-    fn start(&mut self, all: &[Record], core: u8) -> Request
-        requires { self.old.lists ≤ self.old.records }
-        ensures is { result ≡ start_for self.old.lists core (drop self.old.records (map recorded all.now)) }
-        ensures left { drop self.new.records (map recorded all.now) ≡ rest_of (drop self.old.records (map recorded all.now)) }
-        ensures lists { self.new.lists ≡ one_more self.old.lists (drop self.old.records (map recorded all.now)) }
-        ensures fewer { self.new.lists ≤ self.new.records }
-    {
-        let Used { records, lists } = *self;
-        if records >= all.len() {
-            return Request::Start(core, lists);
-        }
-        self.records += 1;
-        match &all[records] {
-            Record::Read(word) => Request::Read(core, u64::from(*word)),
-            Record::List(_) => {
-                self.lists += 1;
-                Request::Start(core, lists)
-            }
-        }
-    }
-
-    /// The request for the call.
-    fn request(&mut self, all: &[Record], call: Call) -> Request
-        requires { self.old.lists ≤ self.old.records }
-        ensures is { result ≡ request_for self.old.lists (drop self.old.records (map recorded all.now)) call.core call.action }
-        ensures left { drop self.new.records (map recorded all.now) ≡ next_record (drop self.old.records (map recorded all.now)) call.action }
-        ensures lists { self.new.lists ≡ next_list self.old.lists (drop self.old.records (map recorded all.now)) call.action }
-        ensures fewer { self.new.lists ≤ self.new.records }
-    {
-        let Call { action, core } = call;
-        match action {
-            Action::Start => self.start(all, core),
-            Action::Step => Request::Step(core),
-            Action::Collect => Request::Collect(core),
-            Action::Halt => Request::Halt(core),
-        }
+    let Call { action, core } = call;
+    match action {
+        Action::Start => start(core, left.next()),
+        Action::Step => Request::Step(core),
+        Action::Collect => Request::Collect(core),
+        Action::Halt => Request::Halt(core),
     }
 }
 
-/// The requests of the calls, in order; a start takes the next record.
-pub fn requests_of(heap: Global, all: &[Record], calls: &[Call]) -> Result<Vec<Request>, AllocError>
-    ensures { IfOk result (λ v. v.items ≡ requests_of 0 (map recorded all.now) calls.now) }
+/// The requests of the calls, in order.
+pub(crate) fn requests_of<'a>(
+    alloc: Global,
+    jobs: &'a [Job],
+    calls: &[Call],
+) -> Result<Vec<Request<'a>>, AllocError>
+    ensures { (rs : List Recorded) → AllZip IsJob jobs.now rs → IfOk result (λ v. AsksAll v.items rs calls.now) }
 {
-    let mut requests = Vec::with_capacity(heap, calls.len())?;
-    let mut used = Used {
-        records: 0,
-        lists: 0,
-    };
-    for i in 0..calls.len() {
-        requests.push(used.request(all, calls[i]))?;
+    let mut requests = Vec::with_capacity(alloc, calls.len())?;
+    let mut left = jobs.iter();
+    for call in calls {
+        requests.push(request(*call, &mut left))?;
     }
     Ok(requests)
 }

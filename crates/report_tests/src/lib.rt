@@ -4,7 +4,7 @@
 
 #[cfg(test)]
 mod tests {
-    use report::{NoMemory, report};
+    use report::report;
     use std::alloc::Global;
     use std::process::Abort;
     use std::test::Fail;
@@ -12,12 +12,10 @@ mod tests {
     // A name, the file's bytes, and its listing.
     type Case = (&'static str, &'static [u8], &'static str);
 
-    fn check_all(rt: &impl Abort, heap: Global, cases: &[Case]) -> Result<(), Fail> {
+    fn check_all(rt: &impl Abort, alloc: Global, cases: &[Case]) -> Result<(), Fail> {
         for (name, file, listing) in cases {
-            match report(heap, file) {
-                Ok(text) => assert_eq!(rt; text.as_slice(), listing.as_bytes(), "{}", name),
-                Err(NoMemory) => return Err(Fail::new("no memory")),
-            }
+            let text = report(alloc, file)?;
+            assert_eq!(rt; text.as_slice(), listing.as_bytes(), "{}", name);
         }
         Ok(())
     }

@@ -1,3 +1,4 @@
+mod Taken
 mod Numbers
 mod Sequences
 mod Records

@@ -1,4 +1,4 @@
-use Rattle.std.proofs.Common.{◌≡◌, ℕ, ◌+◌, ◌-◌, ◌≤◌, List, map, length, drop, Some, None, Ok, Err, Option, sym, ap, ◌∙◌, arith, length-take}
+use Rattle.std.proofs.Common.{◌≡◌, ℕ, ◌≤◌, List, map, length, Some, None, Ok, Err, Option, Result, IsErrAnd, sym, subst, ap, ◌∙◌, arith}
 use Rattle.std.proofs.lemmas.Bool.Decides.{nat_tests}
 use Rattle.std.proofs.lemmas.List.{length-map}
 use Rattle.std.specs.Option.{option_map}
@@ -8,7 +8,12 @@ use Rattle.runfile.specs.declared.file.Setting.{Setting}
 use Rattle.runfile.specs.declared.file.Fault.{Fault}
 use Rattle.runfile.specs.declared.file.Fault.TheVariants.{At, Memory}
 use Rattle.runfile.specs.Format.{Recorded}
-use Rattle.runfile.specs.Reading.{outer_fault, first_call, trailer_place, records_part, calls_part, setting_of, records_in, calls_in, with_calls, with_records, joined, unless, reading, recorded, FaultIs}
+use Rattle.runfile.specs.Reading.{outer_fault, first_call, trailer_place, records_part, calls_part, setting_of, records_in, calls_in, with_calls, with_records, joined, unless, reading, recorded, Answers, FaultIs}
+
+-- what a `?` answers where a part is at fault
+pub handed_on : {X Y : Type 0} (view : X → Y) (r : Result X Fault) (s : Result Y ℕ) (f : Fault) → IsErrAnd r (λ g. g ≡ f) → FaultIs f s → Answers view r s
+handed_on view (Ok x) s f e h = absurd e
+handed_on view (Err g) s f e h = subst (λ (x : Fault). FaultIs x s) (sym e) h
 
 -- neither the length nor the trailer is at fault, and these are the parts
 abbrev pub InParts : List ℕ → List ℕ → List ℕ → Setting → Type 0
@@ -28,13 +33,6 @@ reading_outer bs place e = ap (λ o. unless o (joined (records_part bs) (calls_p
 pub no_outer_fault : (bs : List ℕ) → outer_fault bs ≡ None
     → (12 ≤ length bs) × (length bs ≤ 65536) × ((setting_of bs).words ≤ 256) × (first_call bs ≤ trailer_place bs)
 no_outer_fault bs e = (grind (arith, nat_tests), grind (arith, nat_tests), grind (arith, nat_tests), grind (arith, nat_tests))
-
-pub parts_fit : (bs records calls : List ℕ) (s : Setting) → InParts bs records calls s → length records + length calls ≤ 65536
-parts_fit bs records calls s p =
-    let h = no_outer_fault bs p.0 in
-    let r = ap length p.1 ∙ length-take (first_call bs) bs in
-    let k = ap length p.2 ∙ length-take (trailer_place bs - first_call bs) (drop (first_call bs) bs) in
-    omega arith
 
 pub outer_broken : (bs : List ℕ) (f : Fault) → option_map At (outer_fault bs) ≡ Some f → FaultIs f (reading bs)
 unfolding reading

@@ -1,8 +1,9 @@
-use Rattle.std.specs.Prelude.{◌≡◌, ℕ, zero, suc, ◌+◌, ◌-◌, ◌*◌, ◌^◌, Bool, false, cond, ◌&&◌, ◌||◌, List, [], ◌∷◌, map, length, take, drop, Some, None, Ok, Err, vec_items, Option, Result, ◌==◌, nat_le, nat_lt, slice_index}
+use Rattle.std.specs.Prelude.{◌≡◌, ℕ, zero, suc, ◌+◌, ◌-◌, ◌*◌, ◌^◌, Bool, false, if◌then◌else◌, ◌&&◌, ◌||◌, List, [], ◌∷◌, map, length, take, drop, Some, None, Ok, Err, vec_items, Option, Result, MatchResult, ◌==◌, nat_le, nat_lt, slice_index, ◌++◌, codes, decimal}
 use Rattle.std.specs.Option.{unwrap_or}
 use Rattle.entries.specs.declared.Entry.{Entry}
 use Rattle.runfile.specs.declared.file.Action.{Action}
 use Rattle.runfile.specs.declared.file.Action.TheVariants.{Start, Step, Collect, Halt}
+use Rattle.runfile.specs.declared.file.UnknownLetter.{UnknownLetter}
 use Rattle.runfile.specs.declared.file.Call.{Call}
 use Rattle.runfile.specs.declared.file.Setting.{Setting}
 use Rattle.runfile.specs.declared.file.Record.{Record}
@@ -35,7 +36,7 @@ entries_at (suc n) bs = entry_at bs ∷ entries_at n (drop 18 bs)
 
 -- how many bytes a record has, by its first
 abbrev pub record_size : ℕ → ℕ
-record_size n = cond (n == 0) 3 (1 + 18 * n)
+record_size n = if n == 0 then 3 else (1 + 18 * n)
 
 -- whether a whole record stands at the front: neither cut short nor above 8
 abbrev pub has_record : List ℕ → Bool
@@ -43,21 +44,27 @@ has_record bs = nat_le (slice_index bs 0) 8 && nat_le (record_size (slice_index 
 
 -- the record at the front, where there is one
 abbrev pub record_at : List ℕ → Recorded
-record_at bs = cond (slice_index bs 0 == 0) (a_read (number_at 1 2 bs)) (a_list (entries_at (slice_index bs 0) (drop 1 bs)))
+record_at bs =
+    if slice_index bs 0 == 0 then a_read (number_at 1 2 bs)
+    else a_list (entries_at (slice_index bs 0) (drop 1 bs))
 
 -- the records in bytes whose first stands at a place; the fuel is at least the count of bytes
 unfoldable pub records_in : ℕ → ℕ → List ℕ → Result (List Recorded) ℕ
 records_in zero place bs = Ok []
 records_in (suc fuel) place [] = Ok []
 records_in (suc fuel) place (n ∷ bs) =
-    cond (has_record (n ∷ bs))
-    (after (record_at (n ∷ bs)) (records_in fuel (place + record_size n) (drop (record_size n) (n ∷ bs)))) (Err place)
+    if has_record (n ∷ bs) then after (record_at (n ∷ bs)) (records_in fuel (place + record_size n) (drop (record_size n) (n ∷ bs)))
+    else Err place
 
 -- Calls.
 
 abbrev pub action_of : ℕ → Option Action
 action_of b =
-    cond (b == 98) (Some Start) (cond (b == 115) (Some Step) (cond (b == 99) (Some Collect) (cond (b == 104) (Some Halt) None)))
+    if b == 98 then Some Start else (if b == 115 then Some Step else (if b == 99 then Some Collect else (if b == 104 then Some Halt else None)))
+
+-- the result is the action that the letter stands for, or the letter where it stands for none
+abbrev pub Decodes : ℕ → Result Action UnknownLetter → Type 0
+Decodes b r = MatchResult r (λ a. action_of b ≡ Some a) (λ e. (e.0 ≡ b) × (action_of b ≡ None))
 
 -- an unknown letter is no call, nor is one that uses up more records than are left
 abbrev pub may_call : ℕ → Option Action → Bool
@@ -77,8 +84,9 @@ unfoldable pub calls_in : ℕ → ℕ → List ℕ → Result (List Call) ℕ
 calls_in place left [] = Ok []
 calls_in place left (b ∷ []) = Err place
 calls_in place left (b ∷ (core ∷ bs)) =
-    cond (has_call left (b ∷ (core ∷ bs)))
-    (after (call_at (b ∷ (core ∷ bs))) (calls_in (place + 2) (left - used_by (call_at (b ∷ (core ∷ bs))).action) bs)) (Err place)
+    if has_call left (b ∷ (core ∷ bs))
+    then after (call_at (b ∷ (core ∷ bs))) (calls_in (place + 2) (left - used_by (call_at (b ∷ (core ∷ bs))).action) bs)
+    else Err place
 
 -- The trailer and the whole.
 
@@ -116,9 +124,9 @@ joined records calls s = with_records (records_in (length records) 0 records) s 
 -- the fault of the length or of the trailer
 abbrev pub outer_fault : List ℕ → Option ℕ
 outer_fault bs =
-    cond (nat_lt (length bs) 12) (Some 0)
-    (cond (nat_lt 65536 (length bs)) (Some 65536)
-    (cond (nat_lt 256 (setting_of bs).words || nat_lt (trailer_place bs) (first_call bs)) (Some (trailer_place bs)) None))
+    if nat_lt (length bs) 12 then Some 0
+    else (if nat_lt 65536 (length bs) then Some 65536
+    else (if nat_lt 256 (setting_of bs).words || nat_lt (trailer_place bs) (first_call bs) then Some (trailer_place bs) else None))
 
 abbrev pub unless : Option ℕ → Result Contents ℕ → Result Contents ℕ
 unless (Some place) inner = Err place
@@ -136,6 +144,11 @@ recorded (Listed es) = a_list (vec_items es)
 
 abbrev pub contents : RunFile → Contents
 contents f = record { records = map recorded (vec_items f.records); calls = vec_items f.calls; setting = f.setting }
+
+-- a fault is f and its place, and want of memory is told in words
+abbrev pub fault_text : Fault → List ℕ
+fault_text (At place) = codes "f " ++ decimal place
+fault_text Memory = codes "no memory for the run file"
 
 -- the program's answer is the one defined, unless it found no memory
 abbrev pub FaultIs : {Y : Type 0} → Fault → Result Y ℕ → Type 0

@@ -3,4 +3,5 @@
 #![tactic(auto)]
 
 pub mod file;
+pub mod input;
 pub mod reader;

@@ -25,58 +25,36 @@ impl<T: Drop> From<AllocFailed<T>> for Fault {
     }
 }
 
-/// The number in the first two bytes, and what follows them.
-fn two_bytes(bytes: &[u8]) -> Option<(u16, &[u8])>
-    ensures { MatchOption result (length bytes.now < 2) (λ x. (2 ≤ length bytes.now) × (x.0 ≡ number_at 0 2 bytes.now) × (x.1.now ≡ drop 2 bytes.now)) }
-{
-    match bytes {
-        [a, b, rest @ ..] => Some((u16::from_be_bytes([*a, *b]), rest)),
-        _ => None,
-    }
-}
-
-/// The number in the first eight bytes, and what follows them.
-fn eight_bytes(bytes: &[u8]) -> Option<(u64, &[u8])>
-    ensures { MatchOption result (length bytes.now < 8) (λ x. (8 ≤ length bytes.now) × (x.0 ≡ number_at 0 8 bytes.now) × (x.1.now ≡ drop 8 bytes.now)) }
-{
-    match bytes {
-        [a, b, c, d, e, f, g, h, rest @ ..] => Some((
-            u64::from_be_bytes([*a, *b, *c, *d, *e, *f, *g, *h]),
-            rest,
-        )),
-        _ => None,
-    }
-}
-
 /// The entry at the front, and what follows it.
 fn entry(bytes: &[u8]) -> Option<(Entry, &[u8])>
     ensures { MatchOption result (length bytes.now < 18) (λ x. (18 ≤ length bytes.now) × (x.0 ≡ entry_at bytes.now) × (x.1.now ≡ drop 18 bytes.now)) }
 {
-    let (word, rest) = two_bytes(bytes)?;
-    let (expected, rest) = eight_bytes(rest)?;
-    let (new, rest) = eight_bytes(rest)?;
+    let (word, rest) = bytes.split_first_chunk::<2>()?;
+    let (expected, rest) = rest.split_first_chunk::<8>()?;
+    let (new, rest) = rest.split_first_chunk::<8>()?;
     Some((
         Entry {
-            word: u64::from(word),
-            expected,
-            new,
+            word: u64::from(u16::from_be_bytes(*word)),
+            expected: u64::from_be_bytes(*expected),
+            new: u64::from_be_bytes(*new),
         },
         rest,
     ))
 }
 
 /// The entries at the front, as many as counted, and what follows them; the fault is at the place of their record.
+// `alloc`, `place` and `bytes` are passed on once, by `record`: a struct of the three would be made for that one call.
 fn entries(
-    heap: Global,
+    alloc: Global,
     place: usize,
     count: u8,
     bytes: &[u8],
 ) -> Result<(Vec<Entry>, &[u8]), Fault>
     ensures { MatchResult result (λ x. (18 * count ≤ length bytes.now) × (x.0.items ≡ entries_at count bytes.now) × (x.1.now ≡ drop (18 * count) bytes.now)) (λ f. FaultAt f place (length bytes.now < 18 * count)) }
 {
-    let mut list = Vec::new(heap);
+    let mut list = Vec::new(alloc);
     let mut rest = bytes;
-    while list.len() < usize::from(count) {
+    for _ in 0..count {
         let Some((first, after)) = entry(rest) else {
             return Err(Fault::At(place));
         };
@@ -87,13 +65,13 @@ fn entries(
 }
 
 /// The record at the front, which stands at the place, and what follows it.
-fn record(heap: Global, place: usize, bytes: &[u8]) -> Result<(Record, &[u8]), Fault>
+fn record(alloc: Global, place: usize, bytes: &[u8]) -> Result<(Record, &[u8]), Fault>
     ensures { MatchResult result (λ x. (has_record bytes.now ≡ true) × (recorded x.0 ≡ record_at bytes.now) × (x.1.now ≡ drop (record_size (slice_index bytes.now 0)) bytes.now)) (λ f. FaultAt f place (has_record bytes.now ≡ false)) }
 {
     match bytes {
         [0, high, low, rest @ ..] => Ok((Record::Read(u16::from_be_bytes([*high, *low])), rest)),
-        [count, rest @ ..] if 1 <= *count && *count <= 8 => {
-            let (list, rest) = entries(heap, place, *count, rest)?;
+        [count @ 1..=8, rest @ ..] => {
+            let (list, rest) = entries(alloc, place, *count, rest)?;
             Ok((Record::List(list), rest))
         }
         _ => Err(Fault::At(place)),
@@ -101,74 +79,48 @@ fn record(heap: Global, place: usize, bytes: &[u8]) -> Result<(Record, &[u8]), F
 }
 
 /// All records of the records part, which begins at place 0.
-fn records(heap: Global, part: &[u8]) -> Result<Vec<Record>, Fault>
+fn records(alloc: Global, part: &[u8]) -> Result<Vec<Record>, Fault>
     ensures { Answers (λ v. map recorded v.items) result (records_in (length part.now) 0 part.now) }
 {
-    let mut all = Vec::new(heap);
+    let mut all = Vec::new(alloc);
     let mut rest = part;
+    // A record's length is known once it is read, so there is nothing to iterate over.
     while !rest.is_empty() {
-        let (next, after) = record(heap, part.len() - rest.len(), rest)?;
+        let (next, after) = record(alloc, part.len() - rest.len(), rest)?;
         all.push(next)?;
         rest = after;
     }
     Ok(all)
 }
 
-/// The action that a letter stands for.
-fn action(letter: u8) -> Option<Action>
-    ensures { result ≡ action_of letter }
+/// The call of these bytes, which stand at the place, where so many records are left.
+fn call(place: usize, left: usize, bytes: &[u8]) -> Result<Call, Fault>
+    requires { length bytes.now ≤ 2 }
+    ensures { MatchResult result (λ x. (has_call left bytes.now ≡ true) × (x ≡ call_at bytes.now)) (λ f. (f ≡ At place) × (has_call left bytes.now ≡ false)) }
 {
-    match letter {
-        b'b' => Some(Action::Start),
-        b's' => Some(Action::Step),
-        b'c' => Some(Action::Collect),
-        b'h' => Some(Action::Halt),
-        _ => None,
-    }
-}
-
-/// How many records a call with this action uses up.
-fn records_used(action: Action) -> usize
-    ensures { result ≡ used_by action }
-{
-    match action {
-        Action::Start => 1,
-        _ => 0,
-    }
-}
-
-/// The call at the front, which stands at the place, and what follows it, where so many records are left.
-fn call(place: usize, left: usize, bytes: &[u8]) -> Result<(Call, &[u8]), Fault>
-    ensures { MatchResult result (λ x. (has_call left bytes.now ≡ true) × (x.0 ≡ call_at bytes.now) × (x.1.now ≡ drop 2 bytes.now)) (λ f. (f ≡ At place) × (has_call left bytes.now ≡ false)) }
-{
-    let [letter, core, rest @ ..] = bytes else {
+    let [letter, core] = bytes else {
         return Err(Fault::At(place));
     };
-    match action(*letter) {
-        Some(action) if records_used(action) <= left => Ok((
-            Call {
-                action,
-                core: *core,
-            },
-            rest,
-        )),
+    match Action::try_from(*letter) {
+        Ok(action) if action.records_used() <= left => Ok(Call {
+            action,
+            core: *core,
+        }),
         _ => Err(Fault::At(place)),
     }
 }
 
 /// All calls of the calls part, which begins at the place, where there are so many records.
-fn calls(heap: Global, place: usize, records: usize, part: &[u8]) -> Result<Vec<Call>, Fault>
+fn calls(alloc: Global, place: usize, records: usize, part: &[u8]) -> Result<Vec<Call>, Fault>
     requires { place + length part.now ≤ 65536 }
     ensures { Answers vec_items result (calls_in place records part.now) }
 {
-    let mut all = Vec::new(heap);
+    let mut all = Vec::new(alloc);
     let mut left = records;
-    let mut rest = part;
-    while !rest.is_empty() {
-        let (next, after) = call(place + (part.len() - rest.len()), left, rest)?;
-        left -= records_used(next.action);
+    for (i, bytes) in part.chunks(2).enumerate() {
+        let next = call(place + 2 * i, left, bytes)?;
+        left -= next.action.records_used();
         all.push(next)?;
-        rest = after;
     }
     Ok(all)
 }
@@ -231,12 +183,12 @@ pub fn split(bytes: &[u8]) -> Result<Parts<'_>, Fault>
 }
 
 /// The run file that the bytes hold, put together from its parts.
-fn joined_parts(heap: Global, bytes: &[u8]) -> Result<RunFile, Fault>
+fn joined_parts(alloc: Global, bytes: &[u8]) -> Result<RunFile, Fault>
     ensures { Answers contents result (reading bytes.now) }
 {
     let parts = split(bytes)?;
-    let records = records(heap, parts.records)?;
-    let calls = calls(heap, parts.records.len(), records.len(), parts.calls)?;
+    let records = records(alloc, parts.records)?;
+    let calls = calls(alloc, parts.records.len(), records.len(), parts.calls)?;
     Ok(RunFile {
         records,
         calls,
@@ -245,10 +197,10 @@ fn joined_parts(heap: Global, bytes: &[u8]) -> Result<RunFile, Fault>
 }
 
 /// The run file that the bytes hold, or the place of its first fault, or want of memory.
-pub fn read(heap: Global, bytes: &[u8]) -> Result<RunFile, Fault>
+pub fn read(alloc: Global, bytes: &[u8]) -> Result<RunFile, Fault>
     ensures answer { Answers contents result (reading bytes.now) }
     ensures told { ReadOrFirst bytes.now result }
     ensures back { ReadsBack bytes.now result }
 {
-    joined_parts(heap, bytes)
+    joined_parts(alloc, bytes)
 }

@@ -26,6 +26,7 @@ impl<B: Bank> Machine<B> {
     fn shut(&mut self)
         ensures { view B.Bank.words self.new ≡ closed (view B.Bank.words self.old) }
     {
+        // A bank's words go by their numbers alone.
         for i in 0..self.bank.size() {
             self.store_shown(i);
         }

@@ -1,6 +1,7 @@
 //! Looking at a word: its shown value and its raw word.
 ghost use Rattle.std.specs.Prelude.{◌≡◌};
-ghost use Rattle.model.specs.Shown.{shown_by_operation, shown_word};
+ghost use Rattle.cores.specs.Cores.{value_read};
+ghost use Rattle.model.specs.Shown.{shown_word};
 ghost use Rattle.model.specs.World.{operation_at};
 ghost use Rattle.model.specs.Calls.{shows, raws};
 ghost use Rattle.model.specs.Perform.{perform};
@@ -9,36 +10,28 @@ ghost use Rattle.machine.specs.Looks.{look, shown_of};
 ghost use Rattle.machine.specs.Sight.{tabled};
 ghost use Rattle.machine.specs.View.{view};
 
-use super::super::seen::Seen;
+use super::super::index::CoreIndex;
 use super::{Machine, placing};
 use bank::Bank;
 use cores::table::{Refusal, Table};
+use descriptor::Overtaken;
 use word::{Mark, Word};
 
-/// What the operation under the mark gives a word that it names; 0 where the mark is overtaken.
-fn value_under(table: &Table, mark: Mark, at: u64) -> u64
-    ensures { result ≡ shown_by_operation (operation_at (tabled table.now) mark) at }
+/// What the operation under the mark gives a word that it names.
+fn value_under(table: &Table, mark: Mark, at: u64) -> Result<u64, Overtaken>
+    ensures { result ≡ value_read at (operation_at (tabled table.now) mark) }
 {
-    if mark.core >= 8 {
-        return 0;
-    }
-    match table.cores[mark.core as usize].value_at(mark.number, at) {
-        Ok(value) => value,
-        Err(_) => 0,
-    }
+    CoreIndex::of(mark)?.core(table).value_at(mark.number, at)
 }
 
-/// The value that word `at` shows where it says `word`.
+/// The value that word `at` shows where it says `word`: 0 where the mark is overtaken.
 pub fn shown_value(table: &Table, at: u64, word: Word) -> u64
     ensures { result ≡ shown_word (tabled table.now) at word }
 {
     match word {
         Word::Plain(value) => value,
-        Word::Placing(mark) => match placing(table, mark) {
-            Seen::Placing(contents) => contents.expected,
-            _ => 0,
-        },
-        Word::Operation(mark) => value_under(table, mark, at),
+        Word::Placing(mark) => placing(table, mark).map_or(0, |contents| contents.expected),
+        Word::Operation(mark) => value_under(table, mark, at).unwrap_or(0),
         Word::Foreign(_) => 0,
     }
 }
@@ -50,19 +43,14 @@ impl<B: Bank> Machine<B> {
         if !self.table.running {
             return Err(Refusal::Closed);
         }
-        match self.bank.load(at) {
-            Ok(raw) => Ok(raw),
-            Err(_) => Err(Refusal::NoWord),
-        }
+        self.bank.load(at).or(Err(Refusal::NoWord))
     }
 
     fn look_shown(&self, at: u64) -> Result<u64, Refusal>
         ensures { result ≡ shown_of (view B.Bank.words self.now) at (look (view B.Bank.words self.now) at) }
     {
-        match self.look(at) {
-            Ok(raw) => Ok(shown_value(&self.table, at, Word::read(raw))),
-            Err(refusal) => Err(refusal),
-        }
+        let raw = self.look(at)?;
+        Ok(shown_value(&self.table, at, Word::read(raw)))
     }
 
     /// The raw word at `at`. Nothing changes.

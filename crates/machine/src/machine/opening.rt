@@ -1,10 +1,11 @@
 //! A machine over a bank, and its opening.
 ghost use Rattle.std.specs.Prelude.{◌≡◌, false, is_ok};
-ghost use Rattle.model.specs.Refusals.{is_plain, first_tagged, setting_fits, refusal_of};
+ghost use Rattle.model.specs.Refusals.{first_tagged, setting_fits, refusal_of};
 ghost use Rattle.model.specs.Calls.{opens};
 ghost use Rattle.model.specs.Perform.{perform, opened_table, closed_table};
 ghost use Rattle.machine.specs.Keeps.{Keeps, Begins};
-ghost use Rattle.machine.specs.Opens.{opening_refusal, receipt_for};
+ghost use Rattle.cores.specs.Refusals.{refusal_in};
+ghost use Rattle.machine.specs.Opens.{plain_at, opening_refusal, receipt_for};
 ghost use Rattle.machine.specs.View.{view};
 
 use super::{Machine, Receipt};
@@ -13,24 +14,21 @@ use cores::table::{Core, Refusal, Setting, Table};
 use descriptor::LAST_NUMBER;
 use word::Word;
 
-fn is_plain(word: Word) -> bool
-    ensures { result ≡ is_plain word }
+/// Whether word `i` is there and plain.
+fn holds_plain<B: Bank>(bank: &B, i: u64) -> bool
+    ensures { result ≡ plain_at (B.Bank.words bank.now) i }
 {
-    matches!(word, Word::Plain(_))
+    matches!(bank.load(i).map(Word::read), Ok(Word::Plain(_)))
 }
 
 /// The first word that is not plain.
 fn first_tagged<B: Bank>(bank: &B) -> Option<u64>
     ensures { result ≡ first_tagged 0 (B.Bank.words bank.now) }
 {
+    // By index, and it stops at the first word that is not plain: a rule of the project for every such check.
     for i in 0..bank.size() {
-        match bank.load(i) {
-            Ok(raw) => {
-                if !is_plain(Word::read(raw)) {
-                    return Some(i);
-                }
-            }
-            Err(_) => return Some(i),
+        if !holds_plain(bank, i) {
+            return Some(i);
         }
     }
     None
@@ -40,10 +38,11 @@ fn first_tagged<B: Bank>(bank: &B) -> Option<u64>
 fn fits(size: u64, setting: Setting) -> bool
     ensures { result ≡ setting_fits size setting }
 {
-    (1 <= setting.cores && setting.cores <= 8)
-        && (1 <= setting.first && setting.first <= LAST_NUMBER)
-        && (1 <= size && size <= 256)
-        && (setting.protected <= size && u64::from(setting.rights) >> setting.cores == 0)
+    (1..=8).contains(&setting.cores)
+        && (1..=LAST_NUMBER).contains(&setting.first)
+        && (1..=256).contains(&size)
+        && setting.protected <= size
+        && u64::from(setting.rights) >> setting.cores == 0
 }
 
 /// The table of a newly opened machine.
@@ -91,19 +90,17 @@ impl<B: Bank> Machine<B> {
         bank
     }
 
-    fn opening_refusal(&self, setting: Setting) -> Option<Refusal>
-        ensures { result ≡ opening_refusal (view B.Bank.words self.now) setting }
+    /// Whether the machine may be opened with the setting, and why not.
+    fn openable(&self, setting: Setting) -> Result<(), Refusal>
+        ensures { refusal_in result ≡ opening_refusal (view B.Bank.words self.now) setting }
     {
         if self.table.running {
-            return Some(Refusal::Open);
+            return Err(Refusal::Open);
         }
         if !fits(self.bank.size(), setting) {
-            return Some(Refusal::Setting);
+            return Err(Refusal::Setting);
         }
-        match first_tagged(&self.bank) {
-            Some(at) => Some(Refusal::Tagged(at)),
-            None => None,
-        }
+        first_tagged(&self.bank).map_or(Ok(()), |at| Err(Refusal::Tagged(at)))
     }
 
     fn take_open(&mut self, setting: Setting) -> Result<Receipt, Refusal>
@@ -111,9 +108,7 @@ impl<B: Bank> Machine<B> {
         ensures after { view B.Bank.words self.new ≡ (perform (view B.Bank.words self.old) (opens setting)).world }
         ensures bank { self.new.bank ≡ self.old.bank }
     {
-        if let Some(refusal) = self.opening_refusal(setting) {
-            return Err(refusal);
-        }
+        self.openable(setting)?;
         self.table = opened_table(setting);
         Ok(Receipt {
             cores: setting.cores,

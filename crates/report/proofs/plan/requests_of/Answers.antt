@@ -1,17 +1,15 @@
-use Rattle.std.proofs.Common.{map, drop, vec_items, arith}
-use Rattle.runfile.specs.Reading.{recorded}
-use Rattle.report.proofs.Requests.{requests_none, requests_more, requests_all}
+use Rattle.std.proofs.Common.{vec_items, sym, subst}
+use Rattle.std.specs.List.{AllZip}
+use Rattle.report.specs.Plan.{IsJob}
+use Rattle.report.proofs.Planned.{asks_none, asks_more, asks_all}
 use Rattle.report.proofs.plan.requests_of.Goals as goal
 
-pub loop-i-init : goal.loop-i-init
-loop-i-init c = (requests_none _ (vec_items c.in_ok-requests.requests) c.in_ok-requests.ensures.items, omega arith)
+pub loop-call-init : goal.loop-call-init
+loop-call-init c rs p = asks_none c.iter-left.result.rest.now (vec_items c.in_ok-requests.requests) rs c.args.calls.now c.in_ok-requests.ensures.items (subst (λ x. AllZip IsJob x rs) (sym c.iter-left.ensures.rest) p)
 
-pub loop-i-preserved : goal.loop-i-preserved
-loop-i-preserved c = (
-  requests_more _ (vec_items c.loop-i.requests) (vec_items c.push.new.self) c.loop-i.used.lists c.request.new.self.lists (drop c.loop-i.used.records (map recorded c.args.all.now)) (drop c.request.new.self.records (map recorded c.args.all.now)) c.args.calls.now c.loop-i.i _ c.request.result
-      c.loop-i.invariant.0 c.loop-i-test.true c.request.ensures.is c.request.ensures.left c.request.ensures.lists c.in_ok-push.ensures.items,
-  c.request.ensures.fewer,
-)
+pub loop-call-preserved : goal.loop-call-preserved
+loop-call-preserved c rs p =
+    asks_more c.loop-call.left.rest.now c.request.new.left.rest.now (vec_items c.loop-call.requests) (vec_items c.push.new.self) rs c.args.calls.now c.loop-call.call-index _ c.request.result (c.loop-call.invariant rs p) c.loop-call-test.true c.request.ensures c.in_ok-push.ensures.items
 
 pub returns : goal.returns
-returns c = requests_all _ (vec_items c.loop-i.requests) c.loop-i.used.lists (drop c.loop-i.used.records (map recorded c.args.all.now)) c.args.calls.now c.loop-i.i c.loop-i.invariant.0 c.loop-i-test.false
+returns c rs p = asks_all c.loop-call.left.rest.now (vec_items c.loop-call.requests) rs c.args.calls.now c.loop-call.call-index (c.loop-call.invariant rs p) c.loop-call-test.false

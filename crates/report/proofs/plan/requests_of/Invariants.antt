@@ -1,9 +1,9 @@
-use Rattle.std.proofs.Common.{◌≡◌, ◌≤◌, ◌++◌, map, drop, vec_items}
-use Rattle.runfile.specs.Reading.{recorded}
-use Rattle.report.specs.Plan.{requests_of}
+use Rattle.std.proofs.Common.{List, vec_items}
+use Rattle.std.specs.List.{AllZip}
+use Rattle.runfile.specs.Format.{Recorded}
+use Rattle.report.specs.Plan.{IsJob}
+use Rattle.report.proofs.Planned.{AsksFrom}
 use Rattle.report.proofs.plan.requests_of.Given as goal
 
-abbrev pub invariant-loop-i : goal.invariant-loop-i
-invariant-loop-i l =
-    (requests_of 0 (map recorded l.all) l.calls ≡ vec_items l.requests ++ requests_of l.used.lists (drop l.used.records (map recorded l.all)) (drop l.i l.calls))
-    × (l.used.lists ≤ l.used.records)
+abbrev pub invariant-loop-call : goal.invariant-loop-call
+invariant-loop-call l = (rs : List Recorded) → AllZip IsJob l.fn.jobs rs → AsksFrom l.left.rest.now (vec_items l.requests) rs l.calls l.call-index

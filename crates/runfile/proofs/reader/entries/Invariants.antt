@@ -1,9 +1,6 @@
-use Rattle.std.proofs.Common.{◌-◌, ◌≤◌, vec_items, vec_len}
+use Rattle.std.proofs.Common.{vec_items}
 use Rattle.runfile.proofs.Numbers.{Gathered}
 use Rattle.runfile.proofs.reader.entries.Given as goal
 
-abbrev pub invariant-loop-rest : goal.invariant-loop-rest
-invariant-loop-rest l = (vec_len l.list ≤ l.count) × Gathered (vec_len l.list) l.bytes (vec_items l.list) l.rest
-
-abbrev pub decreases-loop-rest : goal.decreases-loop-rest
-decreases-loop-rest l = l.count - vec_len l.list
+abbrev pub invariant-loop : goal.invariant-loop
+invariant-loop l = Gathered l.counter l.bytes (vec_items l.list) l.rest

@@ -1,8 +1,8 @@
-use Rattle.std.proofs.Common.{◌∙◌}
-use Rattle.runfile.proofs.Numbers.{entry_made}
+use Rattle.runfile.proofs.Numbers.{number_8, entry_made}
 use Rattle.runfile.proofs.reader.entry.Goals as goal
+use Rattle.std.proofs.Common.{◌∙◌}
 
 pub returns : goal.returns
 returns c =
-    let p = c.in_ok-word.ensures in
-    entry_made _ _ _ _ _ _ _ (p.0, c.from.ensures ∙ p.1, p.2) c.in_ok-expected.ensures c.in_ok-new.ensures
+    entry_made _ _ _ _ _ _ _ _ _ _ c.in_ok-word.ensures.cases c.in_ok-expected.ensures.cases c.in_ok-new.ensures.cases
+    (c.from.ensures ∙ c.from_be_bytes.ensures) (number_8 _ _ c.from_be_bytes-2.ensures) (number_8 _ _ c.from_be_bytes-3.ensures)

@@ -1,15 +1,16 @@
-use Rattle.std.proofs.Common.{◌∙◌}
+use Rattle.std.proofs.Common.{ℕ, ltb, leb, rules}
 use Rattle.entries.specs.Listed.{listed}
-use Rattle.machine.proofs.Named.{none_named, more_named, all_named}
+use Rattle.model.specs.Refusals.{some_of}
+use Rattle.machine.proofs.Named.{some_word}
 use Rattle.machine.proofs.machine.starts.Named.of.Goals as goal
 
-pub loop-i-init : goal.loop-i-init
-loop-i-init c = c.none-named.ensures ∙ none_named c.args.size c.args.protected
+pub returns-in-List : goal.returns-in-List
+unfolding some_of
+returns-in-List c =
+    let missing = some_word (leb c.args.size) (listed c.in-List.list.now) in
+    let protected = some_word (λ (i : ℕ). ltb i c.args.protected) (listed c.in-List.list.now) in
+    search (rules, missing, protected)
 
-pub loop-i-preserved : goal.loop-i-preserved
-loop-i-preserved c =
-    more_named c.args.size c.args.protected c.loop-i.i (listed c.args.list.now) c.as_slice-entries.result.now _ c.loop-i.named c.with-named.result c.as_slice-entries.ensures c.loop-i-test.true c.loop-i.invariant c.with-named.ensures
-
-pub returns : goal.returns
-returns c =
-    all_named c.args.size c.args.protected c.loop-i.i (listed c.args.list.now) c.as_slice-entries.result.now c.loop-i.named c.as_slice-entries.ensures c.loop-i-test.false c.loop-i.invariant
+pub returns-in-Read : goal.returns-in-Read
+unfolding some_of
+returns-in-Read c = search rules

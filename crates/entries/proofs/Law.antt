@@ -1,5 +1,6 @@
-use Rattle.std.proofs.Common.{◌≡◌, ℕ, zero, suc, ◌-◌, ◌^◌, ◌<◌, ◌≤◌, leb, ◌⊎◌, List, length, Decides, inl, inr, ⊎_elim, sub-one, arith}
-use Rattle.std.proofs.lemmas.Bool.{cases_eq, and_parts, leb-true, le-leb}
+use Rattle.std.proofs.Common.{◌≡◌, ℕ, zero, suc, ◌-◌, ◌^◌, ◌<◌, ◌≤◌, eqb, leb, ◌⊎◌, List, length, Decides, inl, inr, ⊎_elim, sub-one, arith}
+use Rattle.std.proofs.lemmas.Bool.{cases_eq, and_parts, leb-true, le-leb, eqb-true}
+use Rattle.std.proofs.lemmas.List.{length-take-le}
 use Rattle.std.proofs.lemmas.Bool.Decides.{Decides-and, Decides-or, Decides-ltb, Decides-eqb, Decides-like}
 use Rattle.entries.specs.declared.Entry.{Entry}
 use Rattle.entries.specs.declared.list.Entries.{Entries}
@@ -51,3 +52,10 @@ decides_lawful es =
 -- Every list that can be had is lawful.
 pub listed_lawful : (e : Entries) → Lawful (listed e)
 listed_lawful e = (decides_lawful (listed e)).0 (and_parts _ (lawful (listed e)) e.fit).1
+
+-- A list has as many entries as it counts.
+pub listed_length : (e : Entries) → length (listed e) ≡ e.count
+listed_length e =
+    let sizes = and_parts (eqb (length e.entries) 8) (leb e.count 8) (and_parts _ (lawful (listed e)) e.fit).0 in
+    let l : e.count ≤ length e.entries = omega (arith, eqb-true _ _ sizes.0, leb-true _ _ sizes.1) in
+    length-take-le e.count e.entries l

@@ -1,7 +1,7 @@
-use Rattle.std.proofs.Common.{◌≡◌, ℕ, zero, suc, ◌+◌, ◌<◌, ◌≤◌, cond, eqb, ◌⊎◌, List, [], ◌∷◌, ◌++◌, length, get_or, Some, None, Option, sym, refl, ap, ◌∙◌, subst, inl, inr, add-one, arith}
+use Rattle.std.proofs.Common.{◌≡◌, ◌≢◌, ℕ, zero, suc, ◌+◌, ◌<◌, ◌≤◌, cond, eqb, ◌⊎◌, List, [], ◌∷◌, ◌++◌, length, get_or, Some, None, Option, sym, refl, ap, ◌∙◌, subst, inl, inr, add-one, arith}
 use Rattle.std.specs.Option.{option_to_list}
 use Rattle.std.proofs.lemmas.List.{append-nil, length-append, get_or_append_left, get_or_push}
-use Rattle.std.proofs.lemmas.Bool.{cases_lt, cases_order, cond-true, eq-eqb}
+use Rattle.std.proofs.lemmas.Bool.{cases_lt, cases_order, cond-true, cond-false, eq-eqb, ne_eqb}
 use Rattle.model.specs.Plain.{Completed, no_operation, Done, Replays, all_done, then_done}
 
 -- Completed operations that happen at moments, at most one at each, listed by ascending moment.
@@ -167,3 +167,6 @@ put_completed f s d t = cond (eqb t s) (Some d) (f t)
 
 pub put_at : (f : ℕ → Option Completed) (s : ℕ) (d : Completed) → put_completed f s d s ≡ Some d
 put_at f s d = cond-true (eqb s s) (Some d) (f s) (eq-eqb s s refl)
+
+pub put_other : (f : ℕ → Option Completed) (s : ℕ) (d : Completed) (t : ℕ) → (t ≢ s) → put_completed f s d t ≡ f t
+put_other f s d t h = cond-false (eqb t s) (Some d) (f t) (ne_eqb t s h)

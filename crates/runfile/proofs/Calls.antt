@@ -7,7 +7,7 @@ use Rattle.runfile.specs.declared.file.Fault.{Fault}
 use Rattle.runfile.specs.declared.file.Fault.TheVariants.{At}
 use Rattle.runfile.specs.Format.{used_by}
 use Rattle.runfile.specs.Reading.{action_of, may_call, has_call, call_at, calls_in, after, FaultIs}
-use Rattle.runfile.proofs.Sequences.{ahead, one_more, all_read}
+use Rattle.runfile.proofs.Sequences.{ahead, ahead_none, one_more, all_read}
 
 -- the call at the front was read, and this is what follows it
 abbrev pub FrontCall : ℕ → List ℕ → Call → List ℕ → Type 0
@@ -61,6 +61,10 @@ pair_fault left bs (b ∷ (core ∷ (d ∷ pair))) rest p h = absurd (omega arit
 abbrev pub CallsSoFar : ℕ → ℕ → List ℕ → List Call → ℕ → ℕ → List ℕ → Type 0
 CallsSoFar place records part cs left n rest =
     (2 * n + length rest ≡ length part) × (calls_in place records part ≡ ahead cs (calls_in (place + 2 * n) left rest))
+
+pub calls_start : (place records : ℕ) (part : List ℕ) (cs : List Call) → cs ≡ [] → CallsSoFar place records part cs records 0 part
+calls_start place records part cs e =
+    let z : place + 2 * 0 ≡ place = omega arith in (omega arith, rw (e, z) (ahead_none (calls_in place records part)))
 
 pub calls_again : (place records left used n n' : ℕ) (part rest pair rest' : List ℕ) (cs cs' : List Call) (c : Call)
     → CallsSoFar place records part cs left n rest → FrontPair rest pair rest' → n' ≡ n + 1 → (has_call left pair ≡ true) × (c ≡ call_at pair)

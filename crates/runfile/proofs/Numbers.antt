@@ -1,4 +1,4 @@
-use Rattle.std.proofs.Common.{◌≡◌, ℕ, zero, suc, ◌+◌, ◌-◌, ◌*◌, ◌^◌, ◌≤◌, List, [], ◌∷◌, ◌++◌, length, get_or, take, drop, sym, refl, ap, ◌∙◌, add-one, arith, length-drop}
+use Rattle.std.proofs.Common.{◌≡◌, ℕ, zero, suc, ◌+◌, ◌-◌, ◌*◌, ◌^◌, ◌<◌, ◌≤◌, List, [], ◌∷◌, ◌++◌, length, get_or, take, drop, sym, refl, ap, ◌∙◌, add-one, arith, length-drop}
 use Rattle.std.proofs.lemmas.List.{get_or-drop, get_or-take, drop-drop}
 use Rattle.entries.specs.declared.Entry.{Entry}
 use Rattle.runfile.specs.Reading.{number_at, entry_at, entries_at, first_call, setting_of}
@@ -83,6 +83,11 @@ gathered_more n bs rest rest' es es' e g h q =
     let d : drop 18 (drop (18 * n) bs) ≡ drop (18 * suc n) bs = drop-drop 18 (18 * n) bs ∙ ap (λ (k : ℕ). drop k bs) (omega arith) in
     let i : es' ≡ entries_at (suc n) bs = q ∙ ap (λ (xs : List Entry). xs ++ (e ∷ [])) g.1 ∙ ap (λ (x : Entry). entries_at n bs ++ (x ∷ [])) (h.1 ∙ ap entry_at g.2) ∙ sym (entries_more n bs) in
     rw add-one (omega arith, i, h.2 ∙ ap (drop 18) g.2 ∙ d)
+
+-- where the next entry is cut short, so are the entries counted
+pub gathered_cut : (n count : ℕ) (bs rest : List ℕ) (es : List Entry)
+    → Gathered n bs es rest → n < count → length rest < 18 → length bs < 18 * count
+gathered_cut n count bs rest es g h k = let l = ap length g.2 ∙ length-drop (18 * n) bs in omega arith
 
 -- the trailer is put together from its twelve bytes
 pub trailer_made : (bs : List ℕ) (x w p f : ℕ) → 12 ≤ length bs

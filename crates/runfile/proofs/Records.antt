@@ -7,7 +7,7 @@ use Rattle.runfile.specs.declared.file.Fault.{Fault}
 use Rattle.runfile.specs.declared.file.Fault.TheVariants.{At, Memory}
 use Rattle.runfile.specs.Format.{Recorded, a_read, a_list}
 use Rattle.runfile.specs.Reading.{number_at, entries_at, has_record, record_at, record_size, records_in, after, FaultIs, FaultAt}
-use Rattle.runfile.proofs.Sequences.{ahead, one_more, all_read}
+use Rattle.runfile.proofs.Sequences.{ahead, ahead_none, one_more, all_read}
 
 -- the record at the front was read, and this is what follows it
 abbrev pub Front : List ℕ → Recorded → List ℕ → Type 0
@@ -68,6 +68,9 @@ records_more place (n ∷ bs) rest r h f =
 abbrev pub RecordsSoFar : List ℕ → List Recorded → List ℕ → Type 0
 RecordsSoFar part rs rest =
     (length rest ≤ length part) × (records_in (length part) 0 part ≡ ahead rs (records_in (length rest) (length part - length rest) rest))
+
+pub records_start : (part : List ℕ) (rs : List Recorded) → rs ≡ [] → RecordsSoFar part rs part
+records_start part rs e = let z : length part - length part ≡ 0 = omega arith in (omega arith, rw (e, z) (ahead_none (records_in (length part) 0 part)))
 
 pub records_again : (part rest rest' : List ℕ) (rs rs' : List Recorded) (r : Recorded)
     → RecordsSoFar part rs rest → 0 < length rest → Front rest r rest' → rs' ≡ rs ++ (r ∷ []) → RecordsSoFar part rs' rest'

@@ -1,4 +1,4 @@
-use Rattle.std.proofs.Common.{◌≡◌, ℕ, ◌≤◌, List, map, length, Some, None, Ok, Err, Option, Result, IsErrAnd, sym, subst, ap, ◌∙◌, arith}
+use Rattle.std.proofs.Common.{◌≡◌, ℕ, ◌+◌, ◌-◌, ◌≤◌, List, map, length, drop, Some, None, Ok, Err, Option, Result, IsErrAnd, sym, subst, ap, ◌∙◌, arith, length-take}
 use Rattle.std.proofs.lemmas.Bool.Decides.{nat_tests}
 use Rattle.std.proofs.lemmas.List.{length-map}
 use Rattle.std.specs.Option.{option_map}
@@ -33,6 +33,13 @@ reading_outer bs place e = ap (λ o. unless o (joined (records_part bs) (calls_p
 pub no_outer_fault : (bs : List ℕ) → outer_fault bs ≡ None
     → (12 ≤ length bs) × (length bs ≤ 65536) × ((setting_of bs).words ≤ 256) × (first_call bs ≤ trailer_place bs)
 no_outer_fault bs e = (grind (arith, nat_tests), grind (arith, nat_tests), grind (arith, nat_tests), grind (arith, nat_tests))
+
+pub parts_fit : (bs records calls : List ℕ) (s : Setting) → InParts bs records calls s → length records + length calls ≤ 65536
+parts_fit bs records calls s p =
+    let h = no_outer_fault bs p.0 in
+    let r = ap length p.1 ∙ length-take (first_call bs) bs in
+    let k = ap length p.2 ∙ length-take (trailer_place bs - first_call bs) (drop (first_call bs) bs) in
+    omega arith
 
 pub outer_broken : (bs : List ℕ) (f : Fault) → option_map At (outer_fault bs) ≡ Some f → FaultIs f (reading bs)
 unfolding reading

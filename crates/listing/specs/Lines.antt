@@ -23,6 +23,10 @@ abbrev pub opening_line : Result (Unit {0}) Refusal → List ℕ
 opening_line (Ok x) = codes "o 0"
 opening_line (Err q) = codes "o " ++ refusal_text q
 
+-- how the line of a call begins: its letter, its core, and a space after each
+abbrev pub called : Call → List ℕ
+called c = letter c.action ∷ (codes " " ++ (decimal c.core ++ codes " "))
+
 -- a call is its letter, its core and its answer
 abbrev pub call_line : Call → Result ℕ Refusal → List ℕ
 call_line c a = letter c.action ∷ (codes " " ++ (decimal c.core ++ (codes " " ++ answer_text a)))

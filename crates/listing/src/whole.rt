@@ -8,8 +8,8 @@ use cores::table::Refusal;
 use runfile::file::Call;
 use std::alloc::{AllocError, Global};
 
-/// The bytes set aside for a call's line. Most have 6, so that the longer ones find room too.
-const LINE_ROOM: usize = 8;
+/// The bytes set aside for a call's line. Most have 6, and the longest of a refused call 10: letter, core, refusal, two spaces and the newline.
+const LINE_ROOM: usize = 10;
 
 /// What a run answered: its opening, its calls with their answers in order, and the words at its end.
 /// The calls stand in the file and the answers come from the run, so they are two slices, and neither is copied.

@@ -2,6 +2,7 @@ use Rattle.std.proofs.Common.{◌≡◌, ℕ, List, [], map, replicate, IfOk, Ok
 use Rattle.std.proofs.lemmas.Bool.{false≢true}
 use Rattle.std.specs.List.{AllZip}
 use Rattle.std.specs.Result.{IsErr, IsErrAnd}
+use Rattle.entries.specs.declared.list.Entries.{Entries}
 use Rattle.cores.specs.declared.table.Refusal.{Refusal}
 use Rattle.cores.specs.declared.table.Setting.{Setting}
 use Rattle.model.specs.Calls.{opens}
@@ -16,12 +17,11 @@ use Rattle.machine.specs.Runs.{Ran, run_end, answers_to, values_in}
 use Rattle.machine.proofs.RunPromises.{run_promises}
 use Rattle.runfile.specs.declared.file.Call.{Call}
 use Rattle.runfile.specs.declared.file.Record.{Record}
-use Rattle.runfile.specs.Format.{Contents, Recorded}
+use Rattle.runfile.specs.Format.{Contents}
 use Rattle.runfile.specs.Reading.{recorded}
 use Rattle.listing.specs.Listing.{listing}
-use Rattle.report.specs.declared.plan.Job.{Job}
-use Rattle.report.specs.Plan.{IsJob, AsksAll}
-use Rattle.report.specs.Text.{machine_setting, zeros, opening_answer, RanOnZeros, TellsWhy, Lists}
+use Rattle.report.specs.Plan.{Makes, lists_in, AsksAll}
+use Rattle.report.specs.Text.{machine_setting, zeros, opening_answer, RanOnZeros, RunOf, TellsWhy, Lists}
 
 -- A file's listing, put together from its lists, its requests and its run.
 
@@ -67,7 +67,20 @@ pub wanted : (n : ℕ) (s : Setting) (qs : List Request) (r : Result Report NotR
 wanted n s qs (Ok x) e = absurd (false≢true e.0)
 wanted n s qs (Err why) e = (replicate n 0, subst (λ (x : NotRun). Ran (replicate n 0) s qs (Err x) (replicate n 0)) (sym e.1) refl)
 
--- the requests of slices that hold a file's jobs and its calls
-pub asked_of : (qs v : List Request) (ws u : List Job) (xs ys : List Record) (cs ds : List Call) → qs ≡ v → ws ≡ u → xs ≡ ys → cs ≡ ds → AllZip IsJob u (map recorded xs) → ((rs : List Recorded) → AllZip IsJob ws rs → AsksAll v rs cs) → AsksAll qs (map recorded ys) ds
-asked_of qs v ws u xs ys cs ds e w d h starts asks =
-    subst (λ x. AsksAll x (map recorded ys) ds) (sym e) (subst (AsksAll v (map recorded ys)) h (asks (map recorded ys) (subst (λ x. AllZip IsJob x (map recorded ys)) (sym w) (subst (λ rs. AllZip IsJob u (map recorded rs)) d starts))))
+-- the same of a file's run
+pub wanted_run : (f : Contents) (r : Result Report NotRun) → IsErr r × IsErrAnd r (λ why. why ≡ Memory) → RunOf f r
+wanted_run f (Ok x) e = absurd (false≢true e.0)
+wanted_run f (Err why) e = subst (λ (x : NotRun). RunOf f (Err x)) (sym e.1) tt
+
+pub run_made : (f : Contents) (s : Setting) (qs : List Request) (r : Result Report NotRun) → s ≡ machine_setting f.setting → AsksAll qs f.records f.calls → RanOnZeros f.setting.words s qs r → RunOf f r
+run_made f s qs (Ok x) e asks ran = (qs, asks, subst (λ (y : Setting). RanOnZeros f.setting.words y qs (Ok x)) e ran)
+run_made f s qs (Err (Refused q)) e asks ran = (qs, asks, subst (λ (y : Setting). RanOnZeros f.setting.words y qs (Err (Refused q))) e ran)
+run_made f s qs (Err Memory) e asks ran = tt
+
+-- the requests of slices that hold a file's records, the lists of these, and its calls
+pub asked_of : (qs v : List Request) (ls u : List (Option Entries)) (xs ys : List Record) (cs ds : List Call) → qs ≡ v → ls ≡ u → xs ≡ ys → cs ≡ ds → AllZip Makes u (lists_in (map recorded xs)) → (AllZip Makes ls (lists_in (map recorded xs)) → AsksAll v (map recorded xs) cs) → AsksAll qs (map recorded ys) ds
+asked_of qs v ls u xs ys cs ds e l d h made asks =
+    subst (λ x. AsksAll x (map recorded ys) ds) (sym e) (subst (AsksAll v (map recorded ys)) h (subst (λ rs. AsksAll v (map recorded rs) cs) d (asks (subst (λ x. AllZip Makes x (lists_in (map recorded xs))) (sym l) made))))
+
+pub told_run : (f : Contents) (r : Report) (text : List ℕ) → RunOf f (Ok r) → text ≡ listing (Ok tt) f.calls (vec_items r.answers) (vec_items r.words) → Lists f text
+told_run f r text (qs, asks, ran) e = told_granted f (machine_setting f.setting) qs refl asks r text ran e

@@ -1,5 +1,7 @@
-use Rattle.std.specs.Prelude.{◌≡◌, ℕ, true, false, List, [], ◌∷◌, Some, None, Option}
+use Rattle.std.specs.Prelude.{◌≡◌, ℕ, true, false, List, [], ◌∷◌, ◌++◌, map, Some, None, Option}
 use Rattle.std.specs.Borrow.{Bor}
+use Rattle.std.specs.List.{AllZip}
+use Rattle.std.specs.Slice.Iter.{iter_rest}
 use Rattle.std.specs.Option.{option_map}
 use Rattle.entries.specs.declared.Entry.{Entry}
 use Rattle.entries.specs.declared.list.Entries.{Entries}
@@ -10,9 +12,9 @@ use Rattle.machine.specs.declared.run.Request.TheVariants as request
 use Rattle.runfile.specs.declared.file.Action.{Action}
 use Rattle.runfile.specs.declared.file.Action.TheVariants as action
 use Rattle.runfile.specs.declared.file.Call.{Call}
-use Rattle.report.specs.declared.plan.Job.{Job}
-use Rattle.report.specs.declared.plan.Job.TheVariants as job
 use Rattle.runfile.specs.Format.{Recorded, a_read, a_list}
+use Rattle.runfile.specs.Reading.{recorded}
+use Rattle.report.specs.declared.plan.Left.{Left}
 
 -- A run file's records and calls, as the requests of a run.
 
@@ -21,17 +23,20 @@ abbrev pub Makes : Option Entries → List Entry → Type 0
 Makes (Some l) es = (lawful es ≡ true) × (listed l ≡ es)
 Makes None es = lawful es ≡ false
 
--- the job of a record: a read of its word, or the list that its entries make
-abbrev pub IsJob : Job → Recorded → Type 0
-IsJob (job.Read w) (a_read v) = w ≡ v
-IsJob (job.Read w) (a_list es) = ⊥
-IsJob (job.List l) (a_read v) = ⊥
-IsJob (job.List l) (a_list es) = Makes l es
+-- the entries of the records that are lists, in order
+unfoldable pub lists_in : List Recorded → List (List Entry)
+lists_in [] = []
+lists_in (a_read w ∷ rs) = lists_in rs
+lists_in (a_list es ∷ rs) = es ∷ lists_in rs
 
--- the start of core k with a job
-abbrev pub Starts : Request → ℕ → Job → Type 0
-Starts q k (job.Read w) = q ≡ request.Read k w
-Starts q k (job.List l) = (o : Option (Bor Entries)) × (q ≡ request.Start k o) × (option_map (λ b. b.now) o ≡ l)
+-- the lists before and after a record
+abbrev pub Added : Recorded → List (Option Entries) → List (Option Entries) → Type 0
+Added (a_read w) before after = after ≡ before
+Added (a_list es) before after = (l : Option Entries) × Makes l es × (after ≡ before ++ (l ∷ []))
+
+-- These records are left, and of those that are lists the lists that their entries make.
+abbrev pub Leaves : Left → List Recorded → Type 0
+Leaves l rs = (map recorded (iter_rest l.records) ≡ rs) × AllZip Makes (iter_rest l.lists) (lists_in rs)
 
 -- The request of a call, where these records are left. A start takes the next record: a read of its word, or the list that its entries make. One that
 -- finds no record has no list.

@@ -36,6 +36,12 @@ opening_answer None = Ok tt
 abbrev pub RanOnZeros : ℕ → MachineSetting → List Request → Result Report NotRun → Type 0
 RanOnZeros n s qs r = (left : List ℕ) × Ran (replicate n 0) s qs r left
 
+-- a file's run, with the requests of its calls; one that wants memory tells nothing
+abbrev pub RunOf : Contents → Result Report NotRun → Type 0
+RunOf f (Ok r) = (qs : List Request) × AsksAll qs f.records f.calls × RanOnZeros f.setting.words (machine_setting f.setting) qs (Ok r)
+RunOf f (Err (Refused q)) = (qs : List Request) × AsksAll qs f.records f.calls × RanOnZeros f.setting.words (machine_setting f.setting) qs (Err (Refused q))
+RunOf f (Err Memory) = Unit {0}
+
 -- the text where the run was not made: a refused opening's; want of memory has none
 abbrev pub TellsWhy : NotRun → List ℕ → Type 0
 TellsWhy (Refused q) text = text ≡ listing (Err q) [] [] []

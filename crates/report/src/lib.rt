@@ -6,7 +6,7 @@ ghost use Rattle.std.specs.Prelude.{◌≡◌, [], replicate, codes, IfOk, Some,
 ghost use Rattle.listing.specs.Listing.{listing};
 ghost use Rattle.runfile.specs.Reading.{reading, contents};
 ghost use Rattle.machine.specs.Runs.{RunPromises};
-ghost use Rattle.report.specs.Text.{machine_setting, RanOnZeros, TellsWhy, TellsFault, Lists, ComesTo};
+ghost use Rattle.report.specs.Text.{machine_setting, RanOnZeros, RunOf, TellsWhy, TellsFault, Lists, ComesTo};
 
 mod plan;
 
@@ -15,7 +15,7 @@ use cores::table::{Refusal, Setting};
 use listing::lines::FaultLine;
 use listing::whole::Listing;
 use machine::run::{NotRun, Report, Request, run};
-use plan::{jobs_of, requests_of};
+use plan::{lists_of, requests_of};
 use runfile::file;
 use runfile::file::{Call, Fault, RunFile};
 use runfile::reader::read;
@@ -111,16 +111,23 @@ fn not_run_text(alloc: Global, why: NotRun) -> Result<Vec<u8>, NoMemory>
     }
 }
 
+/// The run that a sound file asks for. Its lists and requests are let go before its listing is made.
+fn run_of(alloc: Global, file: &RunFile) -> Result<Report, NotRun>
+    ensures { RunOf (contents file.now) result }
+{
+    let records = file.records.as_slice();
+    let lists = lists_of(alloc, records)?;
+    let requests = requests_of(alloc, records, lists.as_slice(), file.calls.as_slice())?;
+    let setting = machine_setting(file.setting);
+    run_on_zeros(alloc, file.setting.words, setting, requests.as_slice())
+}
+
 /// The listing of the run that a sound file asks for.
 fn run_text(alloc: Global, file: &RunFile) -> Result<Vec<u8>, NoMemory>
     ensures { IfOk result (λ t. Lists (contents file.now) t.items) }
 {
-    let jobs = jobs_of(alloc, file.records.as_slice())?;
-    let calls = file.calls.as_slice();
-    let requests = requests_of(alloc, jobs.as_slice(), calls)?;
-    let setting = machine_setting(file.setting);
-    match run_on_zeros(alloc, file.setting.words, setting, requests.as_slice()) {
-        Ok(report) => granted_text(alloc, calls, &report),
+    match run_of(alloc, file) {
+        Ok(report) => granted_text(alloc, file.calls.as_slice(), &report),
         Err(why) => not_run_text(alloc, why),
     }
 }

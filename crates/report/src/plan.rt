@@ -1,23 +1,18 @@
 //! A run file's records and calls, as the requests of a run.
-ghost use Rattle.std.specs.Prelude.{◌≡◌, List, map, None, IfOk, MatchOption};
+ghost use Rattle.std.specs.Prelude.{◌≡◌, List, ◌∷◌, map, IfOk, OnOk};
 ghost use Rattle.std.specs.List.{AllZip};
+ghost use Rattle.std.specs.Option.{option_map};
+ghost use Rattle.std.specs.Slice.Iter.{iter_rest};
+ghost use Rattle.entries.specs.declared.Entry.{Entry};
 ghost use Rattle.runfile.specs.Format.{Recorded};
 ghost use Rattle.runfile.specs.Reading.{recorded};
-ghost use Rattle.report.specs.Plan.{Makes, IsJob, Starts, IsAsked, next_record, AsksAll};
-ghost use Rattle.machine.specs.declared.run.Request.TheVariants.{Start};
+ghost use Rattle.report.specs.Plan.{Makes, Added, Leaves, lists_in, IsStart, IsAsked, rest_of, next_record, AsksAll};
 
 use entries::{Entries, Entry};
 use machine::run::Request;
 use runfile::file::{Action, Call, Record};
 use std::alloc::{AllocError, Global};
 use std::slice::Iter;
-
-/// What a record has a core start: a read of a word, or a list. There is no list where its entries are no lawful one.
-#[derive(Clone, Copy)]
-pub(crate) enum Job {
-    Read(u64),
-    List(Option<Entries>),
-}
 
 /// The list of these entries, if they are a lawful one: `fill` is the one way to such a list.
 fn list_of(entries: &[Entry]) -> Option<Entries>
@@ -28,63 +23,92 @@ fn list_of(entries: &[Entry]) -> Option<Entries>
     Some(list)
 }
 
-/// The job of the record.
-fn job_of(source: &Record) -> Job
-    ensures { IsJob result (recorded source.now) }
+/// Puts the list of the record after the others, if the record is one.
+fn add_list(lists: &mut Vec<Option<Entries>>, next: &Record) -> Result<(), AllocError>
+    ensures { OnOk result (Added (recorded next.now) lists.old.items lists.new.items) }
 {
-    match source {
-        Record::Read(word) => Job::Read(u64::from(*word)),
-        Record::List(entries) => Job::List(list_of(entries.as_slice())),
+    if let Record::List(entries) = next {
+        lists.push(list_of(entries.as_slice()))?;
     }
+    Ok(())
 }
 
-/// The jobs of the records, in order.
-pub(crate) fn jobs_of(alloc: Global, records: &[Record]) -> Result<Vec<Job>, AllocError>
-    ensures { IfOk result (λ v. AllZip IsJob v.items (map recorded records.now)) }
+/// The lists of all records that are lists, in order.
+pub(crate) fn lists_of(
+    alloc: Global,
+    records: &[Record],
+) -> Result<Vec<Option<Entries>>, AllocError>
+    ensures { IfOk result (λ v. AllZip Makes v.items (lists_in (map recorded records.now))) }
 {
-    let mut jobs = Vec::with_capacity(alloc, records.len())?;
+    // Room for these alone: a read takes none.
+    let count = records
+        .iter()
+        .filter(|record| matches!(record, Record::List(_)))
+        .count();
+    let mut lists = Vec::with_capacity(alloc, count)?;
     for record in records {
-        jobs.push(job_of(record))?;
+        add_list(&mut lists, record)?;
     }
-    Ok(jobs)
+    Ok(lists)
 }
 
-/// The start of the core with the next job.
-fn start<'a>(core: u8, next: Option<&'a Job>) -> Request<'a>
-    ensures { MatchOption next.entry (result ≡ Start core None) (λ w. Starts result core w.now) }
-{
-    match next {
-        Some(Job::Read(word)) => Request::Read(core, *word),
-        Some(Job::List(list)) => Request::Start(core, list.as_ref()),
-        None => Request::Start(core, None),
-    }
+/// What the calls have not used up: the records, and the lists of those of them that are lists.
+#[derive(Drop)]
+struct Left<'a> {
+    records: Iter<'a, Record>,
+    lists: Iter<'a, Option<Entries>>,
 }
 
-/// The request of the call: a start takes the next job.
-fn request<'a>(call: Call, left: &mut Iter<'a, Job>) -> Request<'a>
-    ensures { (rs : List Recorded) → AllZip IsJob left.old.rest.now rs → IsAsked result call.core rs call.action × AllZip IsJob left.new.rest.now (next_record rs call.action) }
-{
-    let Call { action, core } = call;
-    match action {
-        Action::Start => start(core, left.next()),
-        Action::Step => Request::Step(core),
-        Action::Collect => Request::Collect(core),
-        Action::Halt => Request::Halt(core),
+impl<'a> Left<'a> {
+    /// The next of the lists, if its entries make one.
+    fn next_list(&mut self) -> Option<&'a Entries>
+        ensures records { self.new.records ≡ self.old.records }
+        ensures list { (es : List Entry) (ess : List (List Entry)) → AllZip Makes (iter_rest self.old.lists) (es ∷ ess) → Makes (option_map (λ b. b.now) result) es × AllZip Makes (iter_rest self.new.lists) ess }
+    {
+        self.lists.next()?.as_ref()
+    }
+
+    /// The start of the core with the next record.
+    fn start(&mut self, core: u8) -> Request<'a>
+        ensures { (rs : List Recorded) → Leaves self.old rs → IsStart result core rs × Leaves self.new (rest_of rs) }
+    {
+        match self.records.next() {
+            Some(Record::Read(word)) => Request::Read(core, u64::from(*word)),
+            Some(Record::List(_)) => Request::Start(core, self.next_list()),
+            None => Request::Start(core, None),
+        }
+    }
+
+    /// The request of the call: a start takes the next record.
+    fn request(&mut self, call: Call) -> Request<'a>
+        ensures { (rs : List Recorded) → Leaves self.old rs → IsAsked result call.core rs call.action × Leaves self.new (next_record rs call.action) }
+    {
+        let Call { action, core } = call;
+        match action {
+            Action::Start => self.start(core),
+            Action::Step => Request::Step(core),
+            Action::Collect => Request::Collect(core),
+            Action::Halt => Request::Halt(core),
+        }
     }
 }
 
 /// The requests of the calls, in order.
 pub(crate) fn requests_of<'a>(
     alloc: Global,
-    jobs: &'a [Job],
+    records: &'a [Record],
+    lists: &'a [Option<Entries>],
     calls: &[Call],
 ) -> Result<Vec<Request<'a>>, AllocError>
-    ensures { (rs : List Recorded) → AllZip IsJob jobs.now rs → IfOk result (λ v. AsksAll v.items rs calls.now) }
+    ensures { AllZip Makes lists.now (lists_in (map recorded records.now)) → IfOk result (λ v. AsksAll v.items (map recorded records.now) calls.now) }
 {
     let mut requests = Vec::with_capacity(alloc, calls.len())?;
-    let mut left = jobs.iter();
+    let mut left = Left {
+        records: records.iter(),
+        lists: lists.iter(),
+    };
     for call in calls {
-        requests.push(request(*call, &mut left))?;
+        requests.push(left.request(*call))?;
     }
     Ok(requests)
 }
